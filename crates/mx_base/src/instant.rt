@@ -1,0 +1,79 @@
+ghost use Rattle.std.specs.Prelude.{◌≡◌, ◌↔◌, ◌<◌, ◌^◌, IsOk, IfOk};
+ghost use Rattle.mx_base.specs.Digits.{instant_text, IsInstant};
+
+use std::marker::Model;
+
+/// A text that is no name of the kind asked for.
+#[derive(Clone, Copy, Debug, PartialEq, Eq)]
+pub struct BadName;
+
+/// A moment of a table's timeline, written as seventeen digits; 0 where no instant is meant.
+#[derive(Clone, Copy, Debug, PartialEq, Eq, PartialOrd, Ord)]
+pub struct Instant {
+    number: u64,
+}
+
+impl Model for Instant {
+    ghost use Rattle.std.specs.Prelude.{ℕ, ◌<◌, ◌^◌};
+
+    ghost Value = { ℕ };
+
+    ghost view = { λ i. i.number };
+
+    ghost invariant = { λ i. i.number < 10 ^ 17 };
+
+    ghost inverse = { λ n. record { number = n } };
+}
+
+impl Instant {
+    /// Its number.
+    pub fn number(self) -> u64
+        ensures value { result ≡ self }
+        ensures bound { result < 10 ^ 17 }
+    {
+        self.number
+    }
+
+    /// The instant that a text is.
+    pub fn parse(text: &str) -> Result<Instant, BadName>
+        ensures ok { IsOk result ↔ IsInstant text.now }
+        ensures value { IfOk result (λ i. text.now ≡ instant_text i) }
+    {
+        let bytes = text.as_bytes();
+        if bytes.len() != 17 {
+            return Err(BadName);
+        }
+        let mut number = 0u64;
+        for byte in bytes {
+            let byte = *byte;
+            if byte < b'0' || byte > b'9' {
+                return Err(BadName);
+            }
+            number = number * 10 + (byte - b'0') as u64;
+        }
+        Ok(Instant { number })
+    }
+
+    /// Its seventeen digits.
+    pub fn print(self) -> [u8; 17]
+        ensures { result ≡ instant_text self }
+    {
+        seventeen_digits(self.number)
+    }
+}
+
+// The digits are written from the last place on.
+fn seventeen_digits(number: u64) -> [u8; 17]
+    requires { number < 10 ^ 17 }
+    ensures { result ≡ instant_text number }
+{
+    let mut out = [b'0'; 17];
+    let mut rest = number;
+    let mut place = 17usize;
+    while place > 0 {
+        place -= 1;
+        out[place] = b'0' + (rest % 10) as u8;
+        rest /= 10;
+    }
+    out
+}

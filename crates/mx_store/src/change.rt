@@ -1,0 +1,9 @@
+use mx_base::Path;
+use mx_lists::Bytes;
+
+#[derive(Debug, Drop)]
+pub enum Change {
+    Create { path: Path, bytes: Bytes },
+    Put { path: Path, bytes: Bytes },
+    Delete { path: Path },
+}

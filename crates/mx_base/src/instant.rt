@@ -1,4 +1,5 @@
-ghost use Rattle.std.specs.Prelude.{◌≡◌, ◌↔◌, ◌<◌, ◌^◌, IsOk, IfOk};
+ghost use Rattle.std.specs.Prelude.{◌≡◌, ◌↔◌, ◌+◌, ◌<◌, ◌^◌, IsOk, IfOk};
+ghost use Rattle.std.specs.Option.{SomeIff};
 ghost use Rattle.mx_base.specs.Digits.{instant_text, IsInstant};
 
 use std::marker::Model;
@@ -26,6 +27,23 @@ impl Model for Instant {
 }
 
 impl Instant {
+    /// The instant of a number of at most seventeen digits.
+    pub fn new(number: u64) -> Option<Instant>
+        ensures { SomeIff result (number < 10 ^ 17) number }
+    {
+        if number > 99_999_999_999_999_999 {
+            return None;
+        }
+        Some(Instant { number })
+    }
+
+    /// The instant after it, where it is not the greatest.
+    pub fn next(self) -> Option<Instant>
+        ensures { SomeIff result (self + 1 < 10 ^ 17) (self + 1) }
+    {
+        Instant::new(self.number + 1)
+    }
+
     /// Its number.
     pub fn number(self) -> u64
         ensures value { result ≡ self }

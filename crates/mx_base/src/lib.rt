@@ -1,8 +1,23 @@
 //! Names of a table: instants, partitions, file ids and paths, each a value exactly where its text is in the grammar.
+//!
+//! | call | contract |
+//! |---|---|
+//! | `Instant::parse`, `print` | the seventeen digits of a number, exact both ways |
+//! | `Partition::parse`, `FileId::parse`, `Path::parse` | a value exactly where the text is in the grammar |
+//! | `Path::of_commit`, `of_files_log`, `of_data_file` | the names of a table's objects |
+//! | `Path::commit_instant` | the instant at which the path is a commit's |
 #![tactic(auto)]
 
+mod ascii;
+mod file_id;
+mod grammar;
 mod instant;
+mod named;
+mod partition;
 mod path;
 
+pub use file_id::FileId;
 pub use instant::{BadName, Instant};
+pub use named::{data_file_name, group_name};
+pub use partition::Partition;
 pub use path::{NameError, Path};

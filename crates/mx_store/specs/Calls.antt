@@ -1,5 +1,5 @@
 -- What the calls of a store do.
-use Rattle.std.specs.Prelude.{◌≡◌, ◌⊎◌, ℕ, ◌+◌, ◌-◌, ◌^◌, ◌≤◌, min, List, [], ◌∷◌, ◌++◌, Option, Some, None, IsSome, Bool, true, false, Result, Ok, Err}
+use Rattle.std.specs.Prelude.{◌≡◌, ◌⊎◌, ℕ, ◌+◌, ◌-◌, ◌^◌, ◌≤◌, min, List, [], ◌∷◌, ◌++◌, take, drop, option_map, Option, Some, None, IsSome, Bool, true, false, Result, Ok, Err}
 use Rattle.mx_store.specs.declared.change.Change.{Change}
 use Rattle.mx_store.specs.declared.change.Change.TheVariants.{Create, Put, Delete}
 use Rattle.mx_store.specs.declared.store.StoreError.{StoreError}
@@ -15,6 +15,11 @@ abbrev pub Counts : {T : Type 0} → ℕ → ℕ → Result T StoreError → Typ
 Counts before now (Ok x) = now ≡ before
 Counts before now (Err Failed) = Rose before now
 Counts before now (Err NoMemory) = now ≡ before
+
+-- the same for a call whose errors are all counted
+abbrev pub CountsErrors : {T E : Type 0} → ℕ → ℕ → Result T E → Type 0
+CountsErrors before now (Ok x) = now ≡ before
+CountsErrors before now (Err e) = Rose before now
 
 -- the journal with a change more, where it is told
 abbrev pub with_change : Option (List Change) → Change → Option (List Change)
@@ -52,6 +57,16 @@ abbrev pub Finds : List ℕ → Option (List Change) → Result (Option (List �
 Finds path None result = Unit {0}
 Finds path (Some journal) (Ok found) = found ≡ at_path (objects_of journal) path
 Finds path (Some journal) (Err e) = Unit {0}
+
+-- so many bytes from that place on; where the object ends before, all that it has from there
+abbrev pub range_of : ℕ → ℕ → List ℕ → List ℕ
+range_of at len bytes = take len (drop at bytes)
+
+-- what a get of a range finds, where it is told
+abbrev pub FindsRange : List ℕ → ℕ → ℕ → Option (List Change) → Result (Option (List ℕ)) StoreError → Type 0
+FindsRange path at len None result = Unit {0}
+FindsRange path at len (Some journal) (Ok found) = found ≡ option_map (range_of at len) (at_path (objects_of journal) path)
+FindsRange path at len (Some journal) (Err e) = Unit {0}
 
 -- the read is noted; after want of memory it may not be
 abbrev pub Reads : {T : Type 0} → List ℕ → Option (List (List ℕ)) → Option (List (List ℕ)) → Result T StoreError → Type 0

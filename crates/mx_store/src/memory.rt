@@ -1,17 +1,16 @@
 // A store in memory, whose calls fail by their numbers.
-ghost use Rattle.std.specs.Prelude.{◌≡◌, ◌++◌, ◌∷◌, [], ℕ, IfOk, OnOk, OnErr, IfNone, OnSome, Some, is_some, nat_eq};
+ghost use Rattle.std.specs.Prelude.{◌≡◌, ◌==◌, ◌++◌, ◌∷◌, [], ℕ, IfOk, OnOk, OnErr, Some, is_some, if◌then◌else◌, MatchBool, IsSome, None};
 ghost use Rattle.std.specs.FinMap as map;
+ghost use Rattle.std.specs.Option.{option_copied};
 ghost use Rattle.mx_store.specs.Objects.{apply, at_path, objects_of, paths_with};
-ghost use Rattle.mx_store.specs.Calls.{Rose};
+ghost use Rattle.mx_store.specs.Journal.{IsAllowed, IsJournal};
+ghost use Rattle.mx_store.specs.Calls.{Rose, range_of};
+ghost use Rattle.mx_store.specs.Memory.{fate, next_call};
 ghost use Rattle.mx_store.specs.declared.change.Change.TheVariants.{Create, Put, Delete};
-ghost use Rattle.std.specs.List.{filter, starts_with};
-ghost use Rattle.std.specs.BTreeMap as tree;
-ghost use Rattle.std.specs.Ordering.{nat_cmp};
-ghost use Rattle.std.specs.Cmp.Lexicographic.{slice_cmp};
-ghost use Rattle.mx_store.specs.declared.store.StoreError.TheVariants.{Failed, NoMemory};
+ghost use Rattle.mx_store.specs.declared.store.StoreError.TheVariants.{Failed};
 
 use crate::change::Change;
-use crate::store::{Store, StoreError};
+use crate::store::StoreError;
 use mx_base::Path;
 use mx_lists::{Bytes, Listed};
 use std::alloc::{AllocError, Global};
@@ -25,6 +24,7 @@ pub struct Failure {
     pub applied: bool,
 }
 
+/// A store in memory. It tells its journal and its reads, and fails at the calls that it was told.
 #[derive(Drop)]
 pub struct MemStore {
     changes: Vec<Change>,
@@ -37,19 +37,22 @@ pub struct MemStore {
 
 impl Model for MemStore {
     ghost use Rattle.mx_store.specs.Memory.{Seen, Mirrors};
+    ghost use Rattle.mx_store.specs.Journal.{IsJournal};
 
     ghost Value = { Seen };
 
     ghost view = { λ m. record { changes = m.changes.items; reads = m.reads.items; failures = m.failures.items; calls = m.calls; faults = m.faults } };
 
-    ghost invariant = { λ m. Mirrors m.objects m.changes.items };
+    ghost invariant = { λ m. Mirrors m.objects m.changes.items × IsJournal m.changes.items };
 }
 
 impl MemStore {
+    /// A store that holds nothing, and in which no call fails.
     pub fn empty(alloc: Global) -> MemStore
         ensures changes { result.changes ≡ [] }
         ensures reads { result.reads ≡ [] }
         ensures failures { result.failures ≡ [] }
+        ensures calls { result.calls ≡ 0 }
         ensures faults { result.faults ≡ 0 }
     {
         MemStore {
@@ -62,7 +65,7 @@ impl MemStore {
         }
     }
 
-    /// The call of that number, counted from 0, is to fail.
+    /// Lets the call of that number, counted from 0, fail; a change is then applied or not.
     pub fn fail(&mut self, call: u64, applied: bool) -> Result<(), AllocError>
         ensures changes { self.new.changes ≡ self.old.changes }
         ensures reads { self.new.reads ≡ self.old.reads }
@@ -70,25 +73,33 @@ impl MemStore {
         ensures calls { self.new.calls ≡ self.old.calls }
         ensures ok { OnOk result (self.new.failures ≡ self.old.failures ++ record { call = call; applied = applied } ∷ []) }
         ensures err { OnErr result (self.new.failures ≡ self.old.failures) }
+        // a later entry takes the place of an earlier one
+        ensures fates { OnOk result ((number : ℕ) →
+            fate self.new.failures number ≡ if call == number then Some applied else fate self.old.failures number) }
     {
         self.failures.push(Failure { call, applied })?;
         Ok(())
     }
 
+    /// The changes so far.
     pub fn journal(&self) -> &[Change]
-        ensures { result.now ≡ self.now.changes }
+        ensures changes { result.now ≡ self.now.changes }
+        ensures is_journal { IsJournal result.now }
     {
         &self.changes
     }
 
+    /// The paths that were given to `get` and `get_range`.
     pub fn reads(&self) -> &[Path]
         ensures { result.now ≡ self.now.reads }
     {
         &self.reads
     }
 
-    // Counts a call, and tells whether it is to fail, and whether it is applied then.
-    fn begin(&mut self) -> Option<bool>
+    // Counts a call, and tells whether it is to fail, and whether its change is applied then.
+    pub(crate) fn begin(&mut self) -> Option<bool>
+        ensures fate { result ≡ fate self.old.failures self.old.calls }
+        ensures calls { self.new.calls ≡ next_call self.old.calls }
         ensures changes { self.new.changes ≡ self.old.changes }
         ensures reads { self.new.reads ≡ self.old.reads }
         ensures failures { self.new.failures ≡ self.old.failures }
@@ -103,29 +114,36 @@ impl MemStore {
             .map(|failure| failure.applied)
     }
 
-    fn failed(&mut self) -> StoreError
+    pub(crate) fn failed(&mut self) -> StoreError
+        ensures rose { Rose self.old.faults self.new.faults }
         ensures changes { self.new.changes ≡ self.old.changes }
         ensures reads { self.new.reads ≡ self.old.reads }
-        ensures rose { Rose self.old.faults self.new.faults }
+        ensures calls { self.new.calls ≡ self.old.calls }
+        ensures failures { self.new.failures ≡ self.old.failures }
         ensures failed { result ≡ Failed }
     {
         self.faults = self.faults.saturating_add(1);
         StoreError::Failed
     }
 
-    fn holds(&self, path: &Path) -> bool
-        ensures { result ≡ is_some (at_path (objects_of self.now.changes) path.now) }
+    pub(crate) fn holds(&self, path: &Path) -> bool
+        ensures value { result ≡ is_some (at_path (objects_of self.now.changes) path.now) }
+        ensures stands { MatchBool result
+            (IsSome (at_path (objects_of self.now.changes) path.now))
+            (at_path (objects_of self.now.changes) path.now ≡ None) }
     {
         self.objects.contains_key(path)
     }
 
     // Makes a change of this path and these bytes.
     fn set(&mut self, path: Path, bytes: Bytes, change: Change) -> Result<(), AllocError>
-        requires { (objects : _) → apply change objects ≡ map.insert objects path bytes }
+        requires sets { (objects : _) → apply change objects ≡ map.insert objects path bytes }
+        requires allowed { IsAllowed (objects_of self.old.changes) change }
         ensures ok { OnOk result (self.new.changes ≡ self.old.changes ++ change ∷ []) }
         ensures err { OnErr result (self.new.changes ≡ self.old.changes) }
         ensures reads { self.new.reads ≡ self.old.reads }
         ensures failures { self.new.failures ≡ self.old.failures }
+        ensures calls { self.new.calls ≡ self.old.calls }
         ensures faults { self.new.faults ≡ self.old.faults }
     {
         self.changes.reserve(1)?;
@@ -134,11 +152,18 @@ impl MemStore {
         Ok(())
     }
 
-    fn made(&mut self, alloc: Global, path: &Path, bytes: &[u8]) -> Result<(), AllocError>
+    pub(crate) fn made(
+        &mut self,
+        alloc: Global,
+        path: &Path,
+        bytes: &[u8],
+    ) -> Result<(), AllocError>
+        requires { at_path (objects_of self.old.changes) path.now ≡ None }
         ensures ok { OnOk result (self.new.changes ≡ self.old.changes ++ Create path.now bytes.now ∷ []) }
         ensures err { OnErr result (self.new.changes ≡ self.old.changes) }
         ensures reads { self.new.reads ≡ self.old.reads }
         ensures failures { self.new.failures ≡ self.old.failures }
+        ensures calls { self.new.calls ≡ self.old.calls }
         ensures faults { self.new.faults ≡ self.old.faults }
     {
         let change = Change::Create {
@@ -148,11 +173,17 @@ impl MemStore {
         self.set(path.clone()?, Bytes::from_slice(alloc, bytes)?, change)
     }
 
-    fn placed(&mut self, alloc: Global, path: &Path, bytes: &[u8]) -> Result<(), AllocError>
+    pub(crate) fn placed(
+        &mut self,
+        alloc: Global,
+        path: &Path,
+        bytes: &[u8],
+    ) -> Result<(), AllocError>
         ensures ok { OnOk result (self.new.changes ≡ self.old.changes ++ Put path.now bytes.now ∷ []) }
         ensures err { OnErr result (self.new.changes ≡ self.old.changes) }
         ensures reads { self.new.reads ≡ self.old.reads }
         ensures failures { self.new.failures ≡ self.old.failures }
+        ensures calls { self.new.calls ≡ self.old.calls }
         ensures faults { self.new.faults ≡ self.old.faults }
     {
         let change = Change::Put {
@@ -163,11 +194,13 @@ impl MemStore {
     }
 
     // Takes the object at the path away.
-    fn unset(&mut self, path: Path) -> Result<(), AllocError>
+    pub(crate) fn unset(&mut self, path: Path) -> Result<(), AllocError>
+        requires { IsSome (at_path (objects_of self.old.changes) path) }
         ensures ok { OnOk result (self.new.changes ≡ self.old.changes ++ Delete path ∷ []) }
         ensures err { OnErr result (self.new.changes ≡ self.old.changes) }
         ensures reads { self.new.reads ≡ self.old.reads }
         ensures failures { self.new.failures ≡ self.old.failures }
+        ensures calls { self.new.calls ≡ self.old.calls }
         ensures faults { self.new.faults ≡ self.old.faults }
     {
         self.changes.reserve(1)?;
@@ -176,9 +209,10 @@ impl MemStore {
         Ok(())
     }
 
-    fn note(&mut self, path: &Path) -> Result<(), AllocError>
+    pub(crate) fn note(&mut self, path: &Path) -> Result<(), AllocError>
         ensures changes { self.new.changes ≡ self.old.changes }
         ensures faults { self.new.faults ≡ self.old.faults }
+        ensures calls { self.new.calls ≡ self.old.calls }
         ensures failures { self.new.failures ≡ self.old.failures }
         ensures ok { OnOk result (self.new.reads ≡ self.old.reads ++ path.now ∷ []) }
         ensures err { OnErr result (self.new.reads ≡ self.old.reads) }
@@ -187,16 +221,13 @@ impl MemStore {
         Ok(())
     }
 
-    fn found(&self, path: &Path) -> Result<Option<Bytes>, AllocError>
-        ensures { IfOk result (λ found. found ≡ at_path (objects_of self.now.changes) path.now) }
+    pub(crate) fn found(&self, path: &Path) -> Option<&Bytes>
+        ensures { option_copied result ≡ at_path (objects_of self.now.changes) path.now }
     {
-        match self.objects.get(path) {
-            Some(bytes) => Ok(Some(bytes.clone()?)),
-            None => Ok(None),
-        }
+        self.objects.get(path)
     }
 
-    fn listed(&self, alloc: Global, prefix: &str) -> Result<Listed<Path>, AllocError>
+    pub(crate) fn listed(&self, alloc: Global, prefix: &str) -> Result<Listed<Path>, AllocError>
         ensures { IfOk result (λ paths. paths ≡ paths_with prefix.now (objects_of self.now.changes)) }
     {
         let mut paths = Listed::new(alloc);
@@ -206,78 +237,5 @@ impl MemStore {
             }
         }
         Ok(paths)
-    }
-}
-
-impl Store for MemStore {
-    ghost journal = { λ m. Some m.changes };
-
-    ghost reads = { λ m. Some m.reads };
-
-    ghost faults = { λ m. m.faults };
-
-    fn list(&mut self, alloc: Global, prefix: &str) -> Result<Listed<Path>, StoreError> {
-        if self.begin().is_some() {
-            return Err(self.failed());
-        }
-        Ok(self.listed(alloc, prefix)?)
-    }
-
-    fn get(&mut self, _alloc: Global, path: &Path) -> Result<Option<Bytes>, StoreError> {
-        self.note(path)?;
-        if self.begin().is_some() {
-            return Err(self.failed());
-        }
-        Ok(self.found(path)?)
-    }
-
-    fn create(&mut self, alloc: Global, path: &Path, bytes: &[u8]) -> Result<bool, StoreError> {
-        let stands = self.holds(path);
-        match self.begin() {
-            None => {
-                if stands {
-                    return Ok(false);
-                }
-                self.made(alloc, path, bytes)?;
-                Ok(true)
-            }
-            Some(applied) => {
-                if applied && !stands {
-                    self.made(alloc, path, bytes)?;
-                }
-                Err(self.failed())
-            }
-        }
-    }
-
-    fn put(&mut self, alloc: Global, path: &Path, bytes: &[u8]) -> Result<(), StoreError> {
-        match self.begin() {
-            None => Ok(self.placed(alloc, path, bytes)?),
-            Some(applied) => {
-                if applied {
-                    self.placed(alloc, path, bytes)?;
-                }
-                Err(self.failed())
-            }
-        }
-    }
-
-    fn delete(&mut self, _alloc: Global, path: &Path) -> Result<bool, StoreError> {
-        let stands = self.holds(path);
-        match self.begin() {
-            None => {
-                if !stands {
-                    return Ok(false);
-                }
-                self.unset(path.clone()?)?;
-                Ok(true)
-            }
-            Some(applied) => {
-                if applied && stands {
-                    self.unset(path.clone()?)?;
-                }
-                Err(self.failed())
-            }
-        }
     }
 }

@@ -1,0 +1,4 @@
+pub mod Timeline
+pub mod Listing
+pub mod Maps
+pub mod Answer

@@ -1,0 +1,5 @@
+pub mod Actions
+pub mod Groups
+pub mod Steps
+pub mod CommitSteps
+pub mod CommitWhole

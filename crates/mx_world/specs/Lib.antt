@@ -1,0 +1,5 @@
+pub mod Table
+pub mod Commits
+pub mod State
+pub mod Making
+pub mod Plan

@@ -1,0 +1,7 @@
+//! The shared state of a table.
+#![tactic(auto)]
+
+mod plan;
+mod world;
+
+pub use world::World;

@@ -2,8 +2,10 @@ ghost use Rattle.std.specs.Prelude.{◌≡◌, ◌↔◌, IsTrue, IsOk, IfOk, le
 ghost use Rattle.std.specs.List.{list_all};
 ghost use Rattle.mx_base.specs.Names.{IsFileId, is_file_id_byte};
 
+use crate::ascii::ascii_text;
 use crate::instant::BadName;
-use mx_lists::Same;
+use mx_lists::{Same, Text};
+use std::alloc::{AllocError, Global};
 use std::marker::Model;
 use uuid::Uuid;
 
@@ -53,6 +55,14 @@ impl FileId {
         ensures bytes { list_all is_file_id_byte self.now ≡ true }
     {
         self.text
+    }
+    /// Its text, copied.
+    pub fn to_text(&self, alloc: Global) -> Result<Text, AllocError>
+        ensures value { IfOk result (λ text. text ≡ self.now) }
+        ensures grammar { IsFileId self.now }
+    {
+        let bytes = self.print();
+        Text::from_str(alloc, ascii_text(&bytes))
     }
 }
 

@@ -2,6 +2,9 @@ ghost use Rattle.std.specs.Prelude.{◌≡◌, ◌↔◌, ◌+◌, ◌<◌, ◌^
 ghost use Rattle.std.specs.Option.{SomeIff};
 ghost use Rattle.mx_base.specs.Digits.{instant_text, IsInstant};
 
+use crate::ascii::ascii_text;
+use mx_lists::Text;
+use std::alloc::{AllocError, Global};
 use std::marker::Model;
 
 /// A text that is no name of the kind asked for.
@@ -77,6 +80,15 @@ impl Instant {
         ensures { result ≡ instant_text self }
     {
         seventeen_digits(self.number)
+    }
+
+    /// Its seventeen digits as a text.
+    pub fn to_text(self, alloc: Global) -> Result<Text, AllocError>
+        ensures value { IfOk result (λ text. text ≡ instant_text self) }
+        ensures bound { self < 10 ^ 17 }
+    {
+        let digits = self.print();
+        Text::from_str(alloc, ascii_text(&digits))
     }
 }
 

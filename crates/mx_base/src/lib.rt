@@ -15,6 +15,8 @@ mod instant;
 mod named;
 mod partition;
 mod path;
+#[cfg(test)]
+mod tests;
 
 pub use file_id::FileId;
 pub use instant::{BadName, Instant};

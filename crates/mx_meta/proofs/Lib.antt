@@ -1,0 +1,3 @@
+pub mod AddedLemmas
+pub mod CommitLemmas
+pub mod JsonLemmas

@@ -1,7 +1,7 @@
 -- The JSON of the files that a commit adds.
-use Rattle.std.specs.Prelude.{ℕ, List, [], ◌∷◌, codes, map, Bool, true, Option, Some, None, option_map, option_and_then}
+use Rattle.std.specs.Prelude.{ℕ, List, [], ◌∷◌, codes, map, Option, option_map, option_and_then}
 use Rattle.serde_json.specs.Data.{Data, number, unsigned, string, array, object, no_members, member}
-use Rattle.serde_json.specs.Find.{as_array}
+use Rattle.serde_json.specs.Find.{as_array, as_str}
 use Rattle.serde_json.specs.View.{items_of}
 use Rattle.mx_base.specs.Names.{is_partition}
 use Rattle.mx_meta.specs.Json.{json_of, with_names, field_in, each_in, text_in, number_in}
@@ -22,7 +22,7 @@ added_file_in d =
     option_and_then (λ d. option_and_then (λ name. option_and_then (λ partition. option_map (λ size. record { name = name; partition = partition; size = size })
     (field_in number_in (codes "size") d))
     (field_in (text_in is_partition) (codes "partition") d))
-    (field_in (text_in (λ _. true)) (codes "name") d))
+    (field_in as_str (codes "name") d))
     (with_names (codes "name" ∷ codes "partition" ∷ codes "size" ∷ []) d)
 
 unfoldable pub added_in : Data → Option (List AddedFile)

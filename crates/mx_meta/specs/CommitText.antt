@@ -1,5 +1,5 @@
 -- The JSON of a commit's object.
-use Rattle.std.specs.Prelude.{ℕ, ◌<◌, ◌^◌, List, [], ◌∷◌, codes, map, fold, All, if◌then◌else◌, Option, Some, None, option_map, option_and_then}
+use Rattle.std.specs.Prelude.{ℕ, ◌<◌, ◌^◌, List, [], ◌∷◌, codes, map, fold, All, IfSome, if◌then◌else◌, Option, Some, None, option_map, option_and_then}
 use Rattle.std.specs.List.Sorted.{IsStrictlySortedBy}
 use Rattle.std.specs.Str.{bytes_eq}
 use Rattle.std.specs.Ordering.{nat_cmp}
@@ -8,7 +8,7 @@ use Rattle.serde_json.specs.Data.{Data, number, unsigned, string, array, object,
 use Rattle.serde_json.specs.Find.{as_str, as_array, as_object}
 use Rattle.serde_json.specs.View.{items_of}
 use Rattle.mx_base.specs.Digits.{instant_text}
-use Rattle.mx_base.specs.Names.{is_file_id, is_partition, is_path}
+use Rattle.mx_base.specs.Names.{is_file_id, IsFileId, is_partition, IsPartition, is_path, IsPath}
 use Rattle.mx_base.specs.Paths.{instant_of}
 use Rattle.mx_meta.specs.Json.{json_of, with_names, field_in, each_in, text_in, count_in}
 use Rattle.mx_meta.specs.declared.commit_meta.WriteStat.{WriteStat}
@@ -84,3 +84,14 @@ pub record HasSmallCounts (stat : WriteStat) : Type 0 where
 pub record IsWellFormed (meta : CommitMeta) : Type 0 where
   pub rising : IsStrictlySortedBy (slice_cmp nat_cmp) (map (λ p. p.partition) meta.partitions)
   pub counts : All (λ p. All HasSmallCounts p.stats) meta.partitions
+
+-- the names of a file's entry are names, as its types have it
+pub record HasNames (stat : WriteStat) : Type 0 where
+  pub file_id : IsFileId stat.file_id
+  pub path : IsPath stat.path
+  pub prev : IfSome stat.prev_commit (λ at. at < 10 ^ 17)
+
+-- the names of a partition's entries are names
+pub record HasNamesWithin (p : PartitionStats) : Type 0 where
+  pub partition : IsPartition p.partition
+  pub stats : All HasNames p.stats

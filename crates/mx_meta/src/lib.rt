@@ -8,6 +8,8 @@
 
 mod added;
 mod commit_meta;
+mod fields;
+mod line;
 
 pub use added::{AddedFile, AddedLog};
 pub use commit_meta::{CommitMeta, PartitionStats, WriteStat};

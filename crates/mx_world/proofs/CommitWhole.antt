@@ -163,11 +163,72 @@ module _ (now : ℕ) (opening : Option (List Change)) (s : Standing) (keeps : Ke
     abbrev changes : List Change
     changes = commit_changes file at before
 
-    one : with_change s.journal (Create (data_path file.partition file.file at) file.text) ≡ with_changes s.journal (take 1 changes)
-    one = ?
+    abbrev first_change : Change
+    first_change = Create (data_path file.partition file.file at) file.text
+
+    abbrev second_change : Change
+    second_change = Create (files_log_path at) (compact_text (added_data (added_by_commit file at)))
+
+    one : with_change s.journal first_change ≡ with_changes s.journal (take 1 changes)
+    one = ap (λ (j : Option (List Change)). with_change j first_change) (with_none s.journal) ∙ with_more s.journal [] first_change
 
     two : with_change (with_changes s.journal (take 1 changes)) (Create (files_log_path at) more) ≡ with_changes s.journal (take 2 changes)
-    two = with_more s.journal (take 1 changes) _ ∙ ?
+    two = with_more s.journal (take 1 changes) (Create (files_log_path at) more) ∙ ap (λ (b : List ℕ). with_changes s.journal (first_change ∷ Create (files_log_path at) b ∷ [])) log_is
 
     three : with_change (with_changes s.journal (take 2 changes)) (Create (commit_path at) meta) ≡ with_changes s.journal (take 3 changes)
-    three = with_more s.journal (take 2 changes) _ ∙ ?
+    three = with_more s.journal (take 2 changes) (Create (commit_path at) meta) ∙ ap (λ (b : List ℕ). with_changes s.journal (first_change ∷ second_change ∷ Create (commit_path at) b ∷ [])) meta_is
+
+    -- the changes at the instant are those at the next one
+    next_changes : commit_changes file at before ≡ commit_changes file (s.last + 1) before
+    next_changes = ap (λ (t : ℕ). commit_changes file t before) next
+
+    -- the data file's create failed
+    pub data_fails : (during after : Standing) (p bytes : List ℕ) (e : StoreError) → during ≡ with_latest latest s → p ≡ data_path file.partition file.file at → bytes ≡ file.text
+        → Makes (Create p bytes) at latest during after (Err e) → Commits file before s after (Err e)
+    data_fails during after p bytes e is path text makes = ends_early file before at latest 0 (Create p bytes) s during after e
+        (ap (λ (d : Standing). d.journal) is ∙ with_none s.journal)
+        (ap (λ (d : Standing). with_change d.journal (Create p bytes)) is
+            ∙ ap (λ (q : List ℕ). with_change s.journal (Create q bytes)) path ∙ ap (λ (b : List ℕ). with_change s.journal (Create (data_path file.partition file.file at) b)) text
+            ∙ one ∙ ap (λ (cs : List Change). with_changes s.journal (take 1 cs)) next_changes)
+        (let e = ap (λ (d : Standing). d.applied) is in omega (arith, e))
+        (ap (λ (d : Standing). d.settled) is ∙ sure)
+        makes
+
+    after_one : (bytes : List ℕ) (during : Standing) → during ≡ one_made bytes at → bytes ≡ file.text → during.journal ≡ with_changes s.journal (take 1 changes)
+    after_one bytes during is text = ap (λ (d : Standing). d.journal) is ∙ ap (λ (b : List ℕ). with_change s.journal (Create (data_path file.partition file.file at) b)) text ∙ one
+
+    after_two : (bytes : List ℕ) (during : Standing) → during ≡ two_made bytes more at → bytes ≡ file.text → during.journal ≡ with_changes s.journal (take 2 changes)
+    after_two bytes during is text = ap (λ (d : Standing). d.journal) is
+        ∙ ap (λ (j : Option (List Change)). with_change j (Create (files_log_path at) more)) (ap (λ (b : List ℕ). with_change s.journal (Create (data_path file.partition file.file at) b)) text ∙ one) ∙ two
+
+    -- the log's create failed
+    pub log_fails : (during after : Standing) (p bytes : List ℕ) (e : StoreError) → during ≡ one_made bytes at → p ≡ files_log_path at → bytes ≡ file.text
+        → Makes (Create p more) at latest during after (Err e) → Commits file before s after (Err e)
+    log_fails during after p bytes e is path text makes = ends_early file before at latest 1 (Create p more) s during after e
+        (after_one bytes during is text ∙ ap (λ (cs : List Change). with_changes s.journal (take 1 cs)) next_changes)
+        (ap (λ (q : List ℕ). with_change during.journal (Create q more)) path ∙ ap (λ (j : Option (List Change)). with_change j (Create (files_log_path at) more)) (after_one bytes during is text)
+            ∙ two ∙ ap (λ (cs : List Change). with_changes s.journal (take 2 cs)) next_changes)
+        (ap (λ (d : Standing). d.applied) is)
+        (ap (λ (d : Standing). d.settled) is)
+        makes
+
+    -- the create of the commit's object failed
+    pub commit_fails : (during after : Standing) (p group bytes : List ℕ) (e : StoreError) → during ≡ two_made bytes more at → p ≡ commit_path at → bytes ≡ file.text
+        → Makes (Create p meta) at (finmap.insert latest group at) during after (Err e) → Commits file before s after (Err e)
+    commit_fails during after p group bytes e is path text makes = ends_early file before at (finmap.insert latest group at) 2 (Create p meta) s during after e
+        (after_two bytes during is text ∙ ap (λ (cs : List Change). with_changes s.journal (take 2 cs)) next_changes)
+        (ap (λ (q : List ℕ). with_change during.journal (Create q meta)) path ∙ ap (λ (j : Option (List Change)). with_change j (Create (commit_path at) meta)) (after_two bytes during is text)
+            ∙ three ∙ ap (λ (cs : List Change). with_changes s.journal (take 3 cs)) next_changes)
+        (let a = ap (λ (d : Standing). d.applied) is in omega (arith, a))
+        (ap (λ (d : Standing). d.settled) is)
+        makes
+
+    -- all three were made
+    pub commit_made : (during after : Standing) (p group bytes : List ℕ) → during ≡ two_made bytes more at → p ≡ commit_path at → bytes ≡ file.text
+        → after ≡ with_made (Create p meta) at (finmap.insert latest group at) during → MakesFront (commit_changes file at before) 3 s after
+    commit_made during after p group bytes is path text made = record {
+      journal = ap (λ (d : Standing). d.journal) made ∙ ap (λ (q : List ℕ). with_change during.journal (Create q meta)) path
+          ∙ ap (λ (j : Option (List Change)). with_change j (Create (commit_path at) meta)) (after_two bytes during is text) ∙ three;
+      applied = let a = ap (λ (d : Standing). d.applied) is in let b = ap (λ (d : Standing). d.applied) made in omega (arith, a, b);
+      settled = ap (λ (d : Standing). d.settled) made;
+    }

@@ -1,6 +1,7 @@
 //! The shared state of a table.
 #![tactic(auto)]
 
+mod commit;
 mod plan;
 mod world;
 

@@ -1,0 +1,56 @@
+ghost use Rattle.std.specs.Prelude.{◌≡◌, is_some, map, option_and_then, option_map};
+ghost use Rattle.std.specs.Str.{bytes_eq};
+ghost use Rattle.std.specs.Cmp.Lexicographic.{pointwise};
+ghost use Rattle.serde_json.specs.Find.{get, as_array, as_str};
+ghost use Rattle.serde_json.specs.View.{view, members_view, items_view};
+ghost use Rattle.mx_meta.specs.Json.{names_of, with_names, field_in, number_in};
+
+use serde_json::{Map, Value};
+
+/// Whether a value is an object of exactly these names, which are in byte order.
+pub fn has_fields(value: &Value, names: &[&str]) -> bool
+    ensures { result ≡ is_some (with_names (map (λ name. name.now) names.now) (view value.now)) }
+{
+    match value.as_object() {
+        Some(members) => has_names(members, names),
+        None => false,
+    }
+}
+
+fn has_names(members: &Map<String, Value>, names: &[&str]) -> bool
+    ensures { result ≡ pointwise bytes_eq (names_of (members_view members.now.entries))
+        (map (λ name. name.now) names.now) }
+{
+    let mut left = names;
+    for (name, _) in members.iter() {
+        match left {
+            [first, more @ ..] if name.as_str() == *first => left = more,
+            _ => return false,
+        }
+    }
+    left.is_empty()
+}
+
+/// The text that a field is.
+pub fn text_field<'a>(value: &'a Value, name: &str) -> Option<&'a str>
+    ensures { option_map (λ text. text.now) result ≡ field_in as_str name.now (view value.now) }
+{
+    value.get(name).and_then(Value::as_str)
+}
+
+/// The number that a field is.
+pub fn number_field(value: &Value, name: &str) -> Option<u64>
+    ensures { result ≡ field_in number_in name.now (view value.now) }
+{
+    value.get(name).and_then(Value::as_u64)
+}
+
+/// The items of the array that a field is.
+pub fn items_field<'a>(value: &'a Value, name: &str) -> Option<&'a [Value]>
+    ensures { option_map (λ items. items_view items.now) result ≡ field_in as_array name.now (view value.now) }
+{
+    match value.get(name).and_then(Value::as_array) {
+        Some(items) => Some(items.as_slice()),
+        None => None,
+    }
+}

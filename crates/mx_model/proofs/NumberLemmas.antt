@@ -1,5 +1,5 @@
 -- A tree seen as a finite map.
-use Rattle.std.proofs.Common.{◌≡◌, ℕ, Bool, true, false, cond, ◌&&◌, List, [], ◌∷◌, Some, None, refl, sym, ◌∙◌, ap, subst}
+use Rattle.std.proofs.Common.{◌≡◌, ℕ, Bool, true, false, cond, ◌&&◌, List, [], ◌∷◌, Some, refl, sym, ◌∙◌, ap, subst}
 use Rattle.std.specs.BTreeMap as tree
 use Rattle.std.specs.BTreeMap.{BTreeMap}
 use Rattle.std.specs.Ordering.{nat_cmp, eq_by_cmp, is_lt}
@@ -13,7 +13,7 @@ use Rattle.std.specs.List.{AllByRecursion}
 use Rattle.std.specs.List.Sorted.{IsStrictlySortedBy}
 use lib.Dec.{T}
 
-turned : (a b : List ℕ) → eq_by_cmp (slice_cmp nat_cmp) a b ≡ eq_by_cmp (slice_cmp nat_cmp) b a
+pub turned : (a b : List ℕ) → eq_by_cmp (slice_cmp nat_cmp) a b ≡ eq_by_cmp (slice_cmp nat_cmp) b a
 turned a b = (eq_by_cmp_equiv nat_list_cmp_total).symm a b
 
 both : (a b : Bool) → T a → T b → T (a && b)
@@ -49,7 +49,7 @@ module _ {X : Type 0} where
   entries-tree m ordered =
       let h = rises m.entries ordered in
       let same = finmap.same_map nat_list_cmp_total (finmap.slice_cmp-IsAntisymmetric finmap.nat_cmp-IsAntisymmetric) (finmap.from_entries m.entries) (finmap.from_sorted m.entries)
-          (λ q. finmap.get-from_entries nat_list_cmp_total m.entries q ∙ sym (finmap.get-from_sorted (slice_cmp nat_cmp) m.entries q h)) in
+      (λ q. finmap.get-from_entries nat_list_cmp_total m.entries q ∙ sym (finmap.get-from_sorted (slice_cmp nat_cmp) m.entries q h)) in
       ap (λ (n : finmap.FinMap (slice_cmp nat_cmp) X). finmap.entries n) same ∙ finmap.entries-from_sorted (slice_cmp nat_cmp) m.entries h
 
   pub tree-empty : (m : BTreeMap (List ℕ) X) → tree.IsEmpty m → finmap.from_entries {R = slice_cmp nat_cmp} m.entries ≡ finmap.empty

@@ -1,5 +1,5 @@
 -- What the listed files say, as a map from partitions to names and sizes.
-use Rattle.std.specs.Prelude.{ℕ, List, Option, unwrap_or}
+use Rattle.std.specs.Prelude.{ℕ, List, unwrap_or, bytes_eq, if◌then◌else◌}
 use Rattle.std.specs.List.{fold}
 use Rattle.std.specs.Ordering.{nat_cmp}
 use Rattle.std.specs.Cmp.Lexicographic.{slice_cmp}
@@ -36,3 +36,7 @@ maps_of actions = files_map (listed_files actions)
 -- what the completed commits at most at an instant list
 abbrev pub maps_at : Objects → ℕ → FilesMap
 maps_at objects at = maps_of (actions_upto (completed_actions objects) at)
+
+-- the sizes of a partition after one more file, which may be another partition's
+abbrev pub with_file_in : List ℕ → NumberMap → AddedFile → NumberMap
+with_file_in partition sizes file = if bytes_eq file.partition partition then finmap.insert sizes file.name file.size else sizes

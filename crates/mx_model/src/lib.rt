@@ -10,7 +10,9 @@
 #![tactic(auto)]
 
 mod action;
+mod laws;
 mod numbers;
 
 pub use action::Action;
+pub use laws::{all_count_at_newest, sizes_are_of_own_files};
 pub use numbers::Numbers;

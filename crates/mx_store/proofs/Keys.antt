@@ -1,8 +1,8 @@
 -- The paths that a folder lists, before and after a change.
-use Rattle.std.proofs.Common.{◌≡◌, ℕ, Bool, true, false, cond, List, [], ◌∷◌, Option, Some, None, IsSome, refl, sym, ◌∙◌, ap, nat_eq}
+use Rattle.std.proofs.Common.{◌≡◌, ℕ, ◌+◌, arith, length, Bool, true, false, cond, List, [], ◌∷◌, Option, Some, None, IsSome, refl, sym, ◌∙◌, ap, subst, nat_eq}
 use Rattle.std.specs.Prelude.{filter, Contains, All}
 use Rattle.std.specs.List.{filter_map, cons_option, starts_with}
-use Rattle.std.specs.Ordering.{nat_cmp}
+use Rattle.std.specs.Ordering.{nat_cmp, eq_by_cmp}
 use Rattle.std.specs.declared.cmp.Ordering.{Ordering}
 use Rattle.std.specs.declared.cmp.Ordering.TheVariants.{Less, Equal, Greater}
 use Rattle.std.specs.Cmp.{eq_by_cmp_equiv}
@@ -11,8 +11,8 @@ use Rattle.std.specs.FinMap as finmap
 use Rattle.std.specs.FinMap.{contains_key-keys}
 use Rattle.std.specs.FinMap.Entries.{put, by_order}
 use Rattle.std.specs.Map.{keys_of}
-use Rattle.std.proofs.lemmas.List.Elements.{All-head, All-tail, All-weaker}
-use Rattle.std.proofs.lemmas.Map.Views.{All-from_any, Contains-from_any, list_any-from_Contains}
+use Rattle.std.proofs.lemmas.List.Elements.{All-head, All-tail, All-weaker, All-filter, filter_passes}
+use Rattle.std.proofs.lemmas.Map.Views.{any-filter_same, All-from_any, Contains-from_any, list_any-from_Contains}
 use Rattle.mx_store.specs.Objects.{Objects, at_path, paths_with}
 use Rattle.mx_store.proofs.Paths.{same_path}
 
@@ -109,3 +109,39 @@ module _ {X : Type 0} (f g : List ℕ → Option X) (prefix : List ℕ) where
   pub listed_paths-agree : (o : Objects) → ((q : List ℕ) → IsSome (at_path o q) → starts_with nat_eq q prefix ≡ true → f q ≡ g q) → filter_map f (paths_with prefix o) ≡ filter_map g (paths_with prefix o)
   listed_paths-agree o same = each_agrees (finmap.keys o)
       (All-weaker (λ q. IsSome (at_path o q)) (λ q. starts_with nat_eq q prefix ≡ true → f q ≡ g q) (λ q stands. same q stands) (finmap.keys o) (keys_stand o))
+
+-- ---- the paths that are listed are those that begin so and where something stands
+
+pub paths_stand : (prefix : List ℕ) (o : Objects) → All (λ q. IsSome (at_path o q)) (paths_with prefix o)
+paths_stand prefix o = All-filter (λ q. starts_with nat_eq q prefix) (λ q. IsSome (at_path o q)) (finmap.keys o) (keys_stand o)
+
+pub paths_begin : (prefix : List ℕ) (o : Objects) → All (λ q. starts_with nat_eq q prefix ≡ true) (paths_with prefix o)
+paths_begin prefix o = filter_passes (λ q. starts_with nat_eq q prefix) (finmap.keys o)
+
+pub in_paths : (prefix : List ℕ) (o : Objects) (q : List ℕ) → IsSome (at_path o q) → starts_with nat_eq q prefix ≡ true → Contains (paths_with prefix o) q
+in_paths prefix o q stands begins = Contains-from_any same_path q (paths_with prefix o)
+    (any-filter_same (eq_by_cmp (slice_cmp nat_cmp) q) (λ k. starts_with nat_eq k prefix) true
+    (λ k is. subst (λ (x : List ℕ). starts_with nat_eq x prefix ≡ true) (same_path q k is) begins) (finmap.keys o)
+    ∙ sym (contains_key-keys o q) ∙ stands)
+
+-- ---- new bytes where something stands
+
+kept_case : (path bytes : List ℕ) (e : List ℕ × List ℕ) (es rest : List (List ℕ × List ℕ)) (r : Ordering) → (length rest ≡ length es → keys_of rest ≡ keys_of es)
+    → length (by_order r ((path, bytes) ∷ e ∷ es) ((e.0, bytes) ∷ es) (e ∷ rest)) ≡ length (e ∷ es) → keys_of (by_order r ((path, bytes) ∷ e ∷ es) ((e.0, bytes) ∷ es) (e ∷ rest)) ≡ keys_of (e ∷ es)
+kept_case path bytes e es rest Less h same = absurd (omega (arith, same))
+kept_case path bytes e es rest Equal h same = refl
+kept_case path bytes e es rest Greater h same = ap (λ (ks : List (List ℕ)). e.0 ∷ ks) (h (omega (arith, same)))
+
+kept_keys : (path bytes : List ℕ) (es : List (List ℕ × List ℕ)) → length (put (slice_cmp nat_cmp) path bytes es) ≡ length es → keys_of (put (slice_cmp nat_cmp) path bytes es) ≡ keys_of es
+kept_keys path bytes [] same = absurd (omega (arith, same))
+kept_keys path bytes (e ∷ es) same = kept_case path bytes e es (put (slice_cmp nat_cmp) path bytes es) (slice_cmp nat_cmp path e.0) (kept_keys path bytes es) same
+
+pub keys-standing : (o : Objects) (path bytes : List ℕ) → IsSome (at_path o path) → finmap.keys (finmap.insert o path bytes) ≡ finmap.keys o
+keys-standing o path bytes stands =
+    let same : finmap.len (finmap.insert o path bytes) ≡ finmap.len o = finmap.len-insert nat_list_cmp_total o path bytes ∙ ap (λ b. cond b (finmap.len o) (finmap.len o + 1)) stands in
+    let size : length (put (slice_cmp nat_cmp) path bytes (finmap.entries o)) ≡ length (finmap.entries o) =
+    sym (ap length (finmap.entries-insert nat_list_cmp_total o path bytes)) ∙ sym (finmap.len-entries (finmap.insert o path bytes)) ∙ same ∙ finmap.len-entries o in
+    ap keys_of (finmap.entries-insert nat_list_cmp_total o path bytes) ∙ kept_keys path bytes (finmap.entries o) size
+
+pub paths_with-standing : (prefix : List ℕ) (o : Objects) (path bytes : List ℕ) → IsSome (at_path o path) → paths_with prefix (finmap.insert o path bytes) ≡ paths_with prefix o
+paths_with-standing prefix o path bytes stands = ap (λ ks. filter (λ q. starts_with nat_eq q prefix) ks) (keys-standing o path bytes stands)

@@ -31,21 +31,25 @@ abbrev pub IsAbsent : Option (List Change) → List ℕ → Type 0
 IsAbsent None path = Unit {0}
 IsAbsent (Some journal) path = at_path (objects_of journal) path ≡ None
 
+-- something stands at the path, where it is told
 abbrev pub IsPresent : Option (List Change) → List ℕ → Type 0
 IsPresent None path = Unit {0}
 IsPresent (Some journal) path = IsSome (at_path (objects_of journal) path)
 
+-- a create makes the object exactly where nothing stood; one that failed made it or changed nothing
 abbrev pub Creates : List ℕ → List ℕ → Option (List Change) → Option (List Change) → Result Bool StoreError → Type 0
 Creates path bytes before after (Ok true) = IsAbsent before path × (after ≡ with_change before (Create path bytes))
 Creates path bytes before after (Ok false) = IsPresent before path × (after ≡ before)
 Creates path bytes before after (Err Failed) = (after ≡ before) ⊎ (IsAbsent before path × (after ≡ with_change before (Create path bytes)))
 Creates path bytes before after (Err NoMemory) = after ≡ before
 
+-- a put makes the object; one that failed made it or changed nothing
 abbrev pub Puts : List ℕ → List ℕ → Option (List Change) → Option (List Change) → Result Unit StoreError → Type 0
 Puts path bytes before after (Ok x) = after ≡ with_change before (Put path bytes)
 Puts path bytes before after (Err Failed) = (after ≡ before) ⊎ (after ≡ with_change before (Put path bytes))
 Puts path bytes before after (Err NoMemory) = after ≡ before
 
+-- a delete takes the object away exactly where one stood; one that failed took it away or changed nothing
 abbrev pub Deletes : List ℕ → Option (List Change) → Option (List Change) → Result Bool StoreError → Type 0
 Deletes path before after (Ok true) = IsPresent before path × (after ≡ with_change before (Delete path))
 Deletes path before after (Ok false) = IsAbsent before path × (after ≡ before)

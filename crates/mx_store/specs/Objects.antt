@@ -16,6 +16,7 @@ Objects = map.FinMap (slice_cmp nat_cmp) (List ℕ)
 abbrev pub at_path : Objects → List ℕ → Option (List ℕ)
 at_path objects path = map.get objects path
 
+-- what one change leaves
 abbrev pub apply : Change → Objects → Objects
 apply (Create path bytes) objects = map.insert objects path bytes
 apply (Put path bytes) objects = map.insert objects path bytes

@@ -19,7 +19,7 @@ pub trait Source {
     fn read(&mut self, buf: &mut [u8]) -> Result<usize, Failed>
         ensures bound { IfOk result (λ n. n ≤ length buf.new) }
         ensures bytes { Takes (left self.old) (left self.new) buf.new result }
-        ensures faults { CountsErrors (faults self.old) (faults self.new) result };
+        ensures cause { CountsErrors (faults self.old) (faults self.new) result };
 }
 
 /// Where bytes go.
@@ -34,5 +34,5 @@ pub trait Sink {
     fn write(&mut self, piece: &[u8]) -> Result<usize, Failed>
         ensures bound { IfOk result (λ n. n ≤ length piece.now) }
         ensures bytes { Adds (written self.old) (written self.new) piece.now result }
-        ensures faults { CountsErrors (faults self.old) (faults self.new) result };
+        ensures cause { CountsErrors (faults self.old) (faults self.new) result };
 }

@@ -3,3 +3,4 @@ pub mod Groups
 pub mod Steps
 pub mod CommitSteps
 pub mod CommitWhole
+pub mod Looks

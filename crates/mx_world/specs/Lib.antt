@@ -3,3 +3,4 @@ pub mod Commits
 pub mod State
 pub mod Making
 pub mod Plan
+pub mod Look

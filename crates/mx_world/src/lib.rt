@@ -2,6 +2,7 @@
 #![tactic(auto)]
 
 mod commit;
+mod lookup;
 mod plan;
 mod world;
 

@@ -1,13 +1,14 @@
-ghost use Rattle.std.specs.Prelude.{◌≡◌, ◌<◌, ◌≤◌, ◌+◌, ◌-◌, ◌^◌, IfOk, OnOk, OnErr, IsSome, Some, true};
+ghost use Rattle.std.specs.Prelude.{◌≡◌, ◌<◌, ◌≤◌, ◌+◌, ◌-◌, ◌^◌, IfOk, IfSome, OnOk, OnErr, IsSome, Some, true};
 ghost use Rattle.std.specs.FinMap as finmap;
-ghost use Rattle.mx_store.specs.Calls.{Counts, IsAbsent, with_change};
+ghost use Rattle.mx_store.specs.Calls.{Counts, Finds, IsAbsent, with_change};
+ghost use Rattle.mx_store.specs.Objects.{objects_of, paths_with};
 ghost use Rattle.mx_store.specs.declared.change.Change.TheVariants.{Create};
 ghost use Rattle.mx_world.specs.State.{KeptIf, IsEmptyFolder};
 ghost use Rattle.mx_world.specs.Commits.{instant_or_none};
 ghost use Rattle.mx_world.specs.Making.{Keeps, Makes, standing, with_made, with_latest};
 
 use mx_base::{Instant, Path};
-use mx_lists::Text;
+use mx_lists::{Bytes, Listed, Text};
 use mx_model::Numbers;
 use mx_store::{Named, Store, StoreError};
 use std::alloc::{AllocError, Global};
@@ -131,6 +132,24 @@ impl<S: Store, N: Named> World<S, N> {
             }
             Err(StoreError::NoMemory) => Err(StoreError::NoMemory),
         }
+    }
+
+    /// The store's `list`, which changes nothing.
+    pub(crate) fn list(&mut self, alloc: Global, prefix: &str) -> Result<Listed<Path>, StoreError>
+        ensures told { IfOk result (λ paths. IfSome (S.journal self.old.store) (λ j. paths ≡ paths_with prefix.now (objects_of j))) }
+        ensures same { standing S.journal self.new ≡ standing S.journal self.old }
+        ensures faults { Counts (S.faults self.old.store) (S.faults self.new.store) result }
+    {
+        self.store.list(alloc, prefix)
+    }
+
+    /// The store's `get`, which changes nothing.
+    pub(crate) fn get(&mut self, alloc: Global, path: &Path) -> Result<Option<Bytes>, StoreError>
+        ensures told { Finds path.now (S.journal self.old.store) result }
+        ensures same { standing S.journal self.new ≡ standing S.journal self.old }
+        ensures faults { Counts (S.faults self.old.store) (S.faults self.new.store) result }
+    {
+        self.store.get(alloc, path)
     }
 
     // Makes a place for a group's newest commit, 0 while there is none, and tells the newest one.

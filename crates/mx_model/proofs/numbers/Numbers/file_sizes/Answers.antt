@@ -1,10 +1,8 @@
 use Rattle.std.proofs.Common.{◌≡◌, ℕ, List, ◌∙◌, sym, ap, rules, map}
-use Rattle.std.specs.FinMap as finmap
 use Rattle.std.specs.Map.Iter.{deref_pair}
 use Rattle.std.proofs.lemmas.Map.Iter.{iter_end}
 use Rattle.std.proofs.lemmas.Simd.{map-map}
 use Rattle.mx_ask.specs.declared.reply.FileSize.{FileSize}
-use Rattle.mx_model.specs.Maps.{NumberMap}
 use Rattle.mx_model.specs.Answer.{file_sizes}
 use Rattle.mx_model.proofs.NumberLemmas.{entries-tree}
 use Rattle.mx_model.proofs.numbers.Numbers.file_sizes.Goals as goal

@@ -1,4 +1,4 @@
-use Rattle.std.proofs.Common.{◌≡◌, ◌∙◌, sym, ap}
+use Rattle.std.proofs.Common.{◌∙◌, sym, ap}
 use Rattle.std.specs.FinMap as finmap
 use Rattle.mx_model.specs.Maps.{NumberMap}
 use Rattle.mx_model.proofs.NumberLemmas.{get-tree}

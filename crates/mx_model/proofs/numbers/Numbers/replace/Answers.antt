@@ -8,7 +8,7 @@ use Rattle.mx_model.proofs.numbers.Numbers.replace.Goals as goal
 pub unreachable-requires : goal.unreachable-requires
 unreachable-requires c =
     let absent : finmap.get c.args.self.now c.args.name ≡ None =
-      ap (λ (m : NumberMap). finmap.get m c.args.name) (sym c.self.view_is) ∙ get-tree c.self.inside.numbers c.args.name ∙ rw c.in-Err.is at c.insert.ensures.absent in
+    ap (λ (m : NumberMap). finmap.get m c.args.name) (sym c.self.view_is) ∙ get-tree c.self.inside.numbers c.args.name ∙ rw c.in-Err.is at c.insert.ensures.absent in
     let none : IsSome {T = ℕ} None = subst (λ (o : Option ℕ). IsSome o) absent c.requires in
     absurd (cc none)
 

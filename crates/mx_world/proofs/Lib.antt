@@ -4,3 +4,4 @@ pub mod Steps
 pub mod CommitSteps
 pub mod CommitWhole
 pub mod Looks
+pub mod Answering

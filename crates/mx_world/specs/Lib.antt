@@ -4,3 +4,4 @@ pub mod State
 pub mod Making
 pub mod Plan
 pub mod Look
+pub mod Answers

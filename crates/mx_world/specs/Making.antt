@@ -1,6 +1,9 @@
 -- How a world stands, and what its changes make of that.
-use Rattle.std.specs.Prelude.{◌≡◌, ◌⊎◌, ℕ, ◌+◌, ◌-◌, ◌≤◌, ◌<◌, ◌^◌, Bool, true, false, List, [], ◌∷◌, ◌++◌, take, Option, Some, None, option_map, Result, Ok, Err}
-use Rattle.mx_base.specs.Paths.{data_path}
+use Rattle.std.specs.Prelude.{◌≡◌, ◌⊎◌, ℕ, ◌+◌, ◌-◌, ◌≤◌, ◌<◌, ◌^◌, Bool, true, false, List, [], ◌∷◌, ◌++◌, take, Option, Some, None, option_map, Result, Ok, Err, IfOk, IfSome}
+use Rattle.std.specs.FinMap as finmap
+use Rattle.mx_base.specs.Paths.{data_path, group_name}
+use Rattle.mx_store.specs.Objects.{objects_of}
+use Rattle.mx_ask.specs.declared.ask.Ask.{Ask}
 use Rattle.mx_store.specs.declared.change.Change.{Change}
 use Rattle.mx_store.specs.declared.store.StoreError.{StoreError}
 use Rattle.mx_store.specs.declared.store.StoreError.TheVariants.{Failed, NoMemory}
@@ -10,7 +13,8 @@ use Rattle.mx_ask.specs.declared.reply.Refusal.{Refusal}
 use Rattle.mx_ask.specs.declared.reply.Reply.{Reply}
 use Rattle.mx_model.specs.Maps.{NumberMap}
 use Rattle.mx_world.specs.State.{Shown, KeptIf}
-use Rattle.mx_world.specs.Commits.{commit_changes}
+use Rattle.mx_world.specs.Commits.{instant_or_none, commit_changes}
+use Rattle.mx_world.specs.Look.{files_reply}
 
 pub record Standing : Type 0 where
   pub journal : Option (List Change)
@@ -59,3 +63,14 @@ Commits file latest before after (Ok (Reply.Files at files)) = ⊥
 Commits file latest before after (Err NoMemory) = (count : ℕ) × MakesFront (commit_changes file (before.last + 1) latest) count before after
 Commits file latest before after (Err Failed) = (after.settled ≡ false)
     × ((count : ℕ) × (after.journal ≡ with_changes before.journal (take count (commit_changes file (before.last + 1) latest))))
+
+-- what an ask makes of a world
+abbrev pub Replies : Ask → Standing → Standing → Result Reply StoreError → Type 0
+Replies (Ask.Commit file) before after result = Commits file (instant_or_none (finmap.get before.latest (group_name file.partition file.file))) before after result
+Replies (Ask.Files partition) before after result = (after ≡ before) × IfOk result (λ (reply : Reply). IfSome before.journal (λ (j : List Change). reply ≡ files_reply partition (objects_of j)))
+
+-- want of memory is a reply, and a failed call of the store is none
+abbrev pub given_reply : Result Reply StoreError → Option Reply
+given_reply (Ok reply) = Some reply
+given_reply (Err NoMemory) = Some (Reply.Refused Refusal.NoMemory)
+given_reply (Err Failed) = None

@@ -3,6 +3,8 @@ ghost use Rattle.std.specs.FinMap as finmap;
 ghost use Rattle.mx_store.specs.Calls.{Counts, Finds, IsAbsent, with_change};
 ghost use Rattle.mx_store.specs.Objects.{objects_of, paths_with};
 ghost use Rattle.mx_store.specs.declared.change.Change.TheVariants.{Create};
+ghost use Rattle.mx_store.specs.Journal.{Begins};
+ghost use Rattle.mx_world.specs.Answers.{IsValidSince};
 ghost use Rattle.mx_world.specs.State.{KeptIf, IsEmptyFolder};
 ghost use Rattle.mx_world.specs.Commits.{instant_or_none};
 ghost use Rattle.mx_world.specs.Making.{Keeps, Makes, standing, with_made, with_latest};
@@ -57,6 +59,23 @@ impl<S: Store, N: Named> World<S, N> {
             latest: Numbers::new(alloc),
             of: PhantomData,
         }
+    }
+
+    /// The store. At every prefix of its journal since the opening the logs say what the commits list.
+    pub fn into_store(self) -> S
+        ensures store { result ≡ self.store }
+        ensures begins { Begins N.opening (S.journal result) }
+        ensures valid { IsValidSince N.opening (S.journal result) }
+    {
+        let World {
+            store,
+            last: _,
+            applied: _,
+            settled: _,
+            latest: _,
+            of: _,
+        } = self;
+        store
     }
 
     /// The number of changes that were made.

@@ -22,10 +22,12 @@ fn an_instant_is_seventeen_digits(rt: HostRuntime) -> Result<(), Fail> {
         ("\u{661}025010100000000", None),
     ];
     for (text, number) in cases {
-        let read = Instant::parse(text).ok();
-        assert_eq!(rt; read.map(Instant::number), number, "{text}");
-        if let Some(at) = read {
-            assert_eq!(rt; &at.print()[..], text.as_bytes());
+        match Instant::parse(text) {
+            Ok(at) => {
+                assert_eq!(rt; Some(at.number()), number, "{text}");
+                assert_eq!(rt; at.print().as_slice(), text.as_bytes());
+            }
+            Err(_) => assert_eq!(rt; number, None, "{text}"),
         }
     }
     Ok(())
@@ -102,11 +104,13 @@ fn a_file_id_is_lower_case_with_hyphens(rt: HostRuntime) -> Result<(), Fail> {
         ("", false),
     ];
     for (text, is_file_id) in cases {
-        let read = FileId::parse(text).ok();
-        assert_eq!(rt; read.is_some(), is_file_id, "{text}");
-        if let Some(id) = read {
-            assert_eq!(rt; &id.print()[..], text.as_bytes());
-            assert!(rt; id.same(&id));
+        match FileId::parse(text) {
+            Ok(id) => {
+                assert!(rt; is_file_id, "{text}");
+                assert_eq!(rt; id.print().as_slice(), text.as_bytes());
+                assert!(rt; id.same(&id));
+            }
+            Err(_) => assert!(rt; !is_file_id, "{text}"),
         }
     }
     Ok(())
@@ -185,7 +189,12 @@ fn the_objects_of_a_table_have_these_names(rt: HostRuntime) -> Result<(), Fail> 
         assert_eq!(rt; path.as_str(), text);
     }
     let name = data_file_name(alloc, &id, at)?;
-    assert_eq!(rt; name.as_str(), &file.as_str()[11..]);
+    assert_eq!(rt;
+        Some(name.as_str()),
+        file.as_str().strip_prefix("2024-01-01/")
+    );
+    assert_eq!(rt; at.to_text(alloc)?.as_str(), "20250101000000000");
+    assert_eq!(rt; id.to_text(alloc)?.as_str(), ID);
     Ok(())
 }
 

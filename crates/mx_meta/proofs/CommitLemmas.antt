@@ -10,7 +10,7 @@ use Rattle.std.proofs.lemmas.Bool.{false_from_ne_true}
 use Rattle.std.proofs.lemmas.Bool.Decides.{Decides-ltb}
 use Rattle.std.proofs.lemmas.List.{take_more}
 use Rattle.std.proofs.lemmas.List.Sums.{fold_push}
-use Rattle.std.proofs.lemmas.List.Elements.{All-head, All-tail}
+use Rattle.std.proofs.lemmas.List.Elements.{All-head, All-tail, All-cons, All-nil}
 use Rattle.std.proofs.lemmas.Slice.Eq.{bytes_eq-Decides}
 use Rattle.serde_json.specs.Data.{Data, string, depth, items_depth, members_depth, Members, no_members, member, put}
 use Rattle.serde_json.specs.View.{items_of}
@@ -177,3 +177,11 @@ pub reads_back : {E : Type 0} (r : Result (List ℕ) E) (meta : CommitMeta) (d :
     IsWellFormed meta → All HasNamesWithin meta.partitions → IfOk r (λ bytes. commit_meta_of bytes ≡ Some meta)
 reads_back (Ok bytes) meta d is utf8 reads well names = commit_meta_of-read bytes meta utf8 (reads ∙ ap (λ (e : Data). Some e) is) well names
 reads_back (Err e) meta d is utf8 reads well names = tt
+
+-- files of one partition
+pub IsWellFormed-one : (p : PartitionStats) → All HasSmallCounts p.stats → IsWellFormed (record { partitions = p ∷ [] })
+unfolding IsStrictlySortedBy
+IsWellFormed-one p counts = record {
+  rising = (tt, tt);
+  counts = All-cons (λ q. All HasSmallCounts q.stats) p [] counts (All-nil (λ q. All HasSmallCounts q.stats));
+}

@@ -10,6 +10,8 @@ mod added;
 mod commit_meta;
 mod fields;
 mod line;
+#[cfg(test)]
+mod tests;
 
 pub use added::{AddedFile, AddedLog};
 pub use commit_meta::{CommitMeta, PartitionStats, WriteStat};

@@ -22,6 +22,7 @@ FilesMap = finmap.FinMap (slice_cmp nat_cmp) NumberMap
 abbrev pub sizes_in : FilesMap → List ℕ → NumberMap
 sizes_in files partition = unwrap_or (finmap.get files partition) finmap.empty
 
+-- the map with one more file: a name that stands takes the new size
 abbrev pub with_file : FilesMap → AddedFile → FilesMap
 with_file files file = finmap.insert files file.partition (finmap.insert (sizes_in files file.partition) file.name file.size)
 

@@ -8,14 +8,12 @@ use mx_base::Partition;
 use mx_meta::AddedFile;
 
 /// The sizes of a partition come from the files of that partition alone, each in turn.
-
 pub fn sizes_are_of_own_files(files: &[AddedFile], partition: &Partition)
     ensures { sizes_in (files_map files.now) partition.now
         ≡ fold (with_file_in partition.now) finmap.empty files.now }
 {}
 
 /// At the newest instant every action counts.
-
 pub fn all_count_at_newest(actions: &[Action])
     ensures { actions_upto actions.now (newest actions.now) ≡ actions.now }
 {}

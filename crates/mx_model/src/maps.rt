@@ -1,0 +1,74 @@
+ghost use Rattle.std.specs.Prelude.{◌≡◌, IfOk, OnOk, OnErr};
+ghost use Rattle.std.specs.FinMap as finmap;
+ghost use Rattle.mx_model.specs.Maps.{FilesMap, sizes_in, with_file};
+ghost use Rattle.mx_model.specs.Answer.{file_sizes};
+
+use crate::Numbers;
+use mx_ask::FileSize;
+use mx_base::Partition;
+use mx_lists::{Listed, Text};
+use mx_meta::AddedFile;
+use std::alloc::{AllocError, Global};
+use std::collections::BTreeMap;
+use std::marker::Model;
+
+/// Names and sizes of files by partitions, which contracts see as a finite map of finite maps.
+#[derive(Drop)]
+pub struct Maps {
+    partitions: BTreeMap<Partition, Numbers>,
+}
+
+impl Model for Maps {
+    ghost use Rattle.std.specs.FinMap as finmap;
+    ghost use Rattle.std.specs.Coded.{coded_list, coded_ℕ};
+    ghost use Rattle.mx_model.specs.Maps.{FilesMap};
+
+    ghost Value = { FilesMap };
+
+    ghost coded = { finmap.code (coded_list coded_ℕ) (finmap.code (coded_list coded_ℕ) coded_ℕ) };
+
+    ghost view = { λ m. finmap.from_entries m.partitions.entries };
+}
+
+impl Maps {
+    pub fn new(alloc: Global) -> Maps
+        ensures { result ≡ finmap.empty }
+    {
+        Maps {
+            partitions: BTreeMap::new(alloc),
+        }
+    }
+
+    /// The file stands in its partition from here on.
+    pub fn add(&mut self, alloc: Global, file: AddedFile) -> Result<(), AllocError>
+        ensures ok { OnOk result (self.new ≡ with_file self.old file) }
+        ensures err { OnErr result (self.new ≡ self.old) }
+    {
+        let AddedFile {
+            name,
+            partition,
+            size,
+        } = file;
+        if let Some(sizes) = self.partitions.get_mut(&partition) {
+            return sizes.insert(name, size);
+        }
+        let mut sizes = Numbers::new(alloc);
+        sizes.insert(name, size)?;
+        self.partitions.insert(partition, sizes)?;
+        Ok(())
+    }
+
+    /// Names and sizes of a partition, in byte order of names: none where it has no file.
+    pub fn file_sizes(
+        &self,
+        alloc: Global,
+        partition: &Partition,
+    ) -> Result<Listed<FileSize>, AllocError>
+        ensures { IfOk result (λ files. files ≡ file_sizes (sizes_in self.now partition.now)) }
+    {
+        match self.partitions.get(partition) {
+            Some(sizes) => sizes.file_sizes(alloc),
+            None => Ok(Listed::new(alloc)),
+        }
+    }
+}

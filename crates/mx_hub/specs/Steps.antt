@@ -6,7 +6,7 @@ use Rattle.mx_ask.specs.declared.reply.Reply.{Reply}
 use Rattle.mx_lines.specs.declared.line.Line.{Line}
 use Rattle.mx_lines.specs.Lines.{IsLine}
 use Rattle.mx_world.specs.declared.answered.Answered.{Answered}
-use Rattle.mx_hub.specs.History.{IsLineReply, IsUnfinished}
+use Rattle.mx_hub.specs.History.{IsLineReply, IsUnfinished, AnswersFit, last_seq}
 
 -- the answer of the line, by the journals before it and after it
 pub record IsLineAnswered (now : ℕ) (opening before after : List Change) (line : Line) (number : ℕ) (answered : Answered) : Type 0 where
@@ -44,3 +44,13 @@ abbrev pub RefusedIf : Option (List Change) → Option (List Change) → Refusal
 RefusedIf (Some opening) (Some journal) refusal number answered = IsRefused opening journal refusal number answered
 RefusedIf (Some opening) None refusal number answered = ⊥
 RefusedIf None journal refusal number answered = ⊥
+
+-- so far each change is one of an ask that was answered
+pub record HasFit (now : ℕ) (opening journal : List Change) (lines : List (List ℕ)) (answers : List Answered) : Type 0 where
+  pub fit : AnswersFit now opening journal 0 0 lines answers
+  pub all : length journal ≡ length opening + last_seq 0 answers
+
+abbrev pub FitsIf : ℕ → Option (List Change) → Option (List Change) → List (List ℕ) → List Answered → Type 0
+FitsIf now (Some opening) (Some journal) lines answers = HasFit now opening journal lines answers
+FitsIf now (Some opening) None lines answers = ⊥
+FitsIf now None journal lines answers = ⊥

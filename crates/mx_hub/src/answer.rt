@@ -17,10 +17,10 @@ pub(crate) fn answer<S: Store, N: Named>(
     alloc: Global,
     world: &mut World<S, N>,
     number: u64,
-    line: &Line,
+    line: Line,
 ) -> Result<Answered, Failed>
     requires settled { world.old.settled ≡ true }
-    ensures answered { IfOk result (λ a. LineAnsweredIf N.moment N.opening (S.journal world.old.store) (S.journal world.new.store) line.now number a) }
+    ensures answered { IfOk result (λ a. LineAnsweredIf N.moment N.opening (S.journal world.old.store) (S.journal world.new.store) line number a) }
     ensures settled { OnOk result (world.new.settled ≡ true) }
     ensures early { OnErr result (LineEndsIf N.moment N.opening (S.journal world.old.store) (S.journal world.new.store)) }
     ensures faults { CountsErrors (S.faults world.old.store) (S.faults world.new.store) result }
@@ -28,7 +28,7 @@ pub(crate) fn answer<S: Store, N: Named>(
     ensures seq { IfOk result (λ a. a.seq ≡ world.new.applied) }
 {
     match line {
-        Line::Whole { bytes } => answer_line(alloc, world, number, bytes),
+        Line::Whole { bytes } => answer_line(alloc, world, number, &bytes),
         Line::Long => Ok(refused(world, number, Refusal::Line)),
     }
 }

@@ -5,5 +5,8 @@
 //! | `serve` | the answers are one history of the lines, and the bytes written are their replies |
 #![tactic(auto)]
 
-pub mod answer;
+mod answer;
+mod serving;
+
+pub use serving::{Served, Stop, serve};
 

@@ -86,12 +86,15 @@ module _ (now : ℕ) (opening before after : List Change) (line : Line) (number 
   }
 
 reply_ends : (now : ℕ) (opening before after : List Change) (ask : Ask) (reply : Reply) → IsReplyTo now opening before after ask reply → IsUnfinished now opening before after
-reply_ends now opening before after (Ask.Commit file) (Reply.Committed at files) is = inr (file, record {
-  latest = is.latest;
-  is_latest = is.is_latest;
-  count = 3;
-  changes = is.changes ∙ ap (λ (t : ℕ). before ++ commit_changes file t is.latest) is.instant;
-})
+reply_ends now opening before after (Ask.Commit file) (Reply.Committed at files) is = inr (
+  file,
+  record {
+    latest = is.latest;
+    is_latest = is.is_latest;
+    count = 3;
+    changes = is.changes ∙ ap (λ (t : ℕ). before ++ commit_changes file t is.latest) is.instant;
+  },
+)
 reply_ends now opening before after (Ask.Commit file) (Reply.Refused Refusal.InstantsUsedUp) is = inl is.1
 reply_ends now opening before after (Ask.Commit file) (Reply.Refused Refusal.NoMemory) is = inr (file, is)
 reply_ends now opening before after (Ask.Commit file) (Reply.Refused Refusal.Line) is = absurd is
@@ -165,7 +168,7 @@ fits_nothing now opening s keeps sure fresh =
     let t = told now opening s keeps in
     subst (λ (x : Option (List Change)). FitsIf now x s.journal [] []) (sym t.opening_is)
     (subst (λ (x : Option (List Change)). FitsIf now (Some t.first) x [] []) (sym t.journal_is)
-        (record { fit = tt; all = let c = (t.kept.sure sure).count in omega (arith, c, fresh) }))
+    (record { fit = tt; all = let c = (t.kept.sure sure).count in omega (arith, c, fresh) }))
 
 -- the number of answers is that of the lines
 pub answers_count : (now : ℕ) (opening journal : Option (List Change)) (lines : List (List ℕ)) (answers : List Answered) → FitsIf now opening journal lines answers → length answers ≡ length lines

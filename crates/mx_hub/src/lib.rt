@@ -9,4 +9,3 @@ mod answer;
 mod serving;
 
 pub use serving::{Served, Stop, serve};
-

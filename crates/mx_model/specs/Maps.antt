@@ -10,7 +10,7 @@ use Rattle.mx_model.specs.declared.action.Action.{Action}
 use Rattle.mx_model.specs.Timeline.{completed_actions, actions_upto}
 use Rattle.mx_model.specs.Listing.{listed_files}
 
--- from names to sizes
+-- from names to numbers, such as sizes
 abbrev pub NumberMap : Type 0
 NumberMap = finmap.FinMap (slice_cmp nat_cmp) ℕ
 

@@ -12,11 +12,11 @@ use Rattle.mx_model.specs.declared.action.Action.{Action}
 abbrev pub action_of : ℕ → List ℕ → Option Action
 action_of at bytes = option_map (λ (meta : CommitMeta). record { at = at; meta = meta }) (commit_meta_of bytes)
 
--- the completed commit whose object stands at the path
+-- the completed commit whose object stands at the path and reads
 abbrev pub action_at : Objects → List ℕ → Option Action
 action_at objects path = option_and_then (λ (at : ℕ). option_and_then (action_of at) (at_path objects path)) (commit_instant path)
 
--- the completed commits, in byte order of their names, which is the order of their instants
+-- the completed commits whose objects read, in byte order of their names, which is the order of their instants
 abbrev pub completed_actions : Objects → List Action
 completed_actions objects = filter_map (action_at objects) (finmap.keys objects)
 

@@ -74,7 +74,7 @@ each_is_logged-other o p bytes each none apart = record {
   reads = λ q at is stands. ⊎_elim
       (λ (same : q ≡ p). absurd (cc (sym is ∙ ap commit_instant same ∙ none)))
       (λ (differ : q ≢ p). subst (λ (x : Option Action). IsSome x) (sym (action_at-other o p bytes q none))
-          (each.reads q at is (subst (λ (b : Option (List ℕ)). IsSome b) (at_other o p bytes q differ) stands)))
+      (each.reads q at is (subst (λ (b : Option (List ℕ)). IsSome b) (at_other o p bytes q differ) stands)))
       (cases_path q p);
   logged = λ q a is.
       let was : action_at o q ≡ Some a = sym (action_at-other o p bytes q none) ∙ is in
@@ -88,13 +88,13 @@ each_is_logged-commit o p bytes t a each is_commit reads logged apart = record {
   reads = λ q at is stands. ⊎_elim
       (λ (same : q ≡ p). subst (λ (x : Option Action). IsSome x) (sym (here q same)) refl)
       (λ (differ : q ≢ p). subst (λ (x : Option Action). IsSome x) (sym (action_at-unlike o p bytes q differ))
-          (each.reads q at is (subst (λ (b : Option (List ℕ)). IsSome b) (at_other o p bytes q differ) stands)))
+      (each.reads q at is (subst (λ (b : Option (List ℕ)). IsSome b) (at_other o p bytes q differ) stands)))
       (cases_path q p);
   logged = λ q b is. ⊎_elim
       (λ (same : q ≡ p). let e : a ≡ b = some_injective a b (sym (here q same) ∙ is) in
-          words_at-other o p bytes (files_log_path b.at) (apart b.at)
-          ∙ ap (λ (s : ℕ). words_at o (files_log_path s)) (sym (instant_of_action t bytes a reads ∙ ap (λ (x : Action). x.at) e))
-          ∙ logged ∙ ap files_of e)
+      words_at-other o p bytes (files_log_path b.at) (apart b.at)
+      ∙ ap (λ (s : ℕ). words_at o (files_log_path s)) (sym (instant_of_action t bytes a reads ∙ ap (λ (x : Action). x.at) e))
+      ∙ logged ∙ ap files_of e)
       (λ (differ : q ≢ p). words_at-other o p bytes (files_log_path b.at) (apart b.at) ∙ each.logged q b (sym (action_at-unlike o p bytes q differ) ∙ is))
       (cases_path q p);
 }

@@ -124,7 +124,7 @@ module _ (now : ℕ) (first journal : List Change) (last applied : ℕ) (latest 
       → IsKept now first ((journal ++ Create (data_path file.partition file.file (last + 1)) bytes ∷ []) ++ Create (files_log_path (last + 1)) more ∷ []) (last + 1) count true newer
       → added_of more ≡ Some (added_by_commit file (last + 1)) → commit_meta_of meta ≡ Some (meta_of_commit file (last + 1) before)
       → IsKept now first (((journal ++ Create (data_path file.partition file.file (last + 1)) bytes ∷ []) ++ Create (files_log_path (last + 1)) more ∷ []) ++ Create (commit_path (last + 1)) meta ∷ [])
-          (last + 1) (count + 1) true (finmap.insert newer (group_name file.partition file.file) (last + 1))
+      (last + 1) (count + 1) true (finmap.insert newer (group_name file.partition file.file) (last + 1))
   commit-keeps bytes more meta count newer before twice added says =
       let two = journal ++ Create (data_path file.partition file.file (last + 1)) bytes ∷ [] in
       keeps-commit now first (two ++ Create (files_log_path (last + 1)) more ∷ []) (last + 1) count newer twice meta (group_name file.partition file.file)

@@ -55,7 +55,7 @@ module _ (now : ℕ) (opening : Option (List Change)) (s : Standing) (keeps : Ke
   pub log_keeps : (latest : NumberMap) (bytes more : List ℕ)
       → Keeps now opening (with_made (Create (data_path file.partition file.file (s.last + 1)) bytes) (s.last + 1) latest (with_latest latest s))
       → Keeps now opening (with_made (Create (files_log_path (s.last + 1)) more) (s.last + 1) latest
-            (with_made (Create (data_path file.partition file.file (s.last + 1)) bytes) (s.last + 1) latest (with_latest latest s)))
+      (with_made (Create (data_path file.partition file.file (s.last + 1)) bytes) (s.last + 1) latest (with_latest latest s)))
   log_keeps latest bytes more k =
       let one = with_told s.journal t.journal (Create (data_path file.partition file.file (s.last + 1)) bytes) t.journal_is in
       keeps_told now opening _ t.first _ (s.last + 1) (s.applied + 1 + 1) true latest t.opening_is (with_told _ _ (Create (files_log_path (s.last + 1)) more) one)
@@ -68,17 +68,17 @@ module _ (now : ℕ) (opening : Option (List Change)) (s : Standing) (keeps : Ke
 
   pub commit_keeps : (latest : NumberMap) (before : Option ℕ) (bytes more meta : List ℕ)
       → Keeps now opening (with_made (Create (files_log_path (s.last + 1)) more) (s.last + 1) latest
-            (with_made (Create (data_path file.partition file.file (s.last + 1)) bytes) (s.last + 1) latest (with_latest latest s)))
+      (with_made (Create (data_path file.partition file.file (s.last + 1)) bytes) (s.last + 1) latest (with_latest latest s)))
       → added_of more ≡ Some (added_by_commit file (s.last + 1)) → commit_meta_of meta ≡ Some (meta_of_commit file (s.last + 1) before)
       → Keeps now opening (with_made (Create (commit_path (s.last + 1)) meta) (s.last + 1) (finmap.insert latest (group_name file.partition file.file) (s.last + 1))
-            (with_made (Create (files_log_path (s.last + 1)) more) (s.last + 1) latest
-            (with_made (Create (data_path file.partition file.file (s.last + 1)) bytes) (s.last + 1) latest (with_latest latest s))))
+      (with_made (Create (files_log_path (s.last + 1)) more) (s.last + 1) latest
+      (with_made (Create (data_path file.partition file.file (s.last + 1)) bytes) (s.last + 1) latest (with_latest latest s))))
   commit_keeps latest before bytes more meta k added says =
       let one = with_told s.journal t.journal (Create (data_path file.partition file.file (s.last + 1)) bytes) t.journal_is in
       let two = with_told _ _ (Create (files_log_path (s.last + 1)) more) one in
       keeps_told now opening _ t.first _ (s.last + 1) (s.applied + 1 + 1 + 1) true _ t.opening_is (with_told _ _ (Create (commit_path (s.last + 1)) meta) two)
       (commit-keeps now t.first t.journal s.last s.applied s.latest kept file plot fits bytes more meta (s.applied + 1 + 1) latest before
-          (kept_of now opening _ t.first _ (s.last + 1) (s.applied + 1 + 1) true latest t.opening_is two k) added says)
+      (kept_of now opening _ t.first _ (s.last + 1) (s.applied + 1 + 1) true latest t.opening_is two k) added says)
 
 -- ---- the ends
 
@@ -98,10 +98,13 @@ pub ends_early : (file : FileText) (latest : Option ℕ) (at : ℕ) (newer : Num
     → Makes c at newer during after (Err e) → Commits file latest before after (Err e)
 ends_early file latest at newer count c before during after NoMemory so_far next applied sure same =
     (count, record { journal = ap (λ (s : Standing). s.journal) same ∙ so_far; applied = ap (λ (s : Standing). s.applied) same ∙ applied; settled = ap (λ (s : Standing). s.settled) same ∙ sure })
-ends_early file latest at newer count c before during after Failed so_far next applied sure failed = (failed.0, ⊎_elim
-    (λ (same : after.journal ≡ during.journal). (count, same ∙ so_far))
-    (λ (one : after.journal ≡ with_change during.journal c). (count + 1, one ∙ next))
-    failed.1)
+ends_early file latest at newer count c before during after Failed so_far next applied sure failed = (
+  failed.0,
+  ⊎_elim
+      (λ (same : after.journal ≡ during.journal). (count, same ∙ so_far))
+      (λ (one : after.journal ≡ with_change during.journal c). (count + 1, one ∙ next))
+      failed.1,
+)
 
 -- ---- at the calls
 
@@ -125,7 +128,7 @@ module _ (now : ℕ) (opening : Option (List Change)) (s : Standing) (keeps : Ke
       subst (λ (d : Standing). IsAbsent d.journal p × Keeps now opening (with_made (Create p bytes) at latest d)) (sym is)
       (subst (λ (q : List ℕ). IsAbsent s.journal q × Keeps now opening (with_made (Create q bytes) at latest (with_latest latest s))) (sym path)
       (subst (λ (t : ℕ). IsAbsent s.journal (data_path file.partition file.file t) × Keeps now opening (one_made bytes t)) (sym next)
-          (data_is_absent now opening s keeps sure file plot fits_next, data_keeps now opening s keeps sure file plot fits_next latest bytes (subst (Keeps now opening) is k))))
+      (data_is_absent now opening s keeps sure file plot fits_next, data_keeps now opening s keeps sure file plot fits_next latest bytes (subst (Keeps now opening) is k))))
 
   -- after the data file
   pub data_made : (during after : Standing) (p bytes : List ℕ) → during ≡ with_latest latest s → p ≡ data_path file.partition file.file at → after ≡ with_made (Create p bytes) at latest during → after ≡ one_made bytes at
@@ -137,9 +140,10 @@ module _ (now : ℕ) (opening : Option (List Change)) (s : Standing) (keeps : Ke
   log_call during p bytes more is k path =
       subst (λ (d : Standing). IsAbsent d.journal p × Keeps now opening (with_made (Create p more) at latest d)) (sym is)
       (subst (λ (q : List ℕ). IsAbsent (with_change s.journal (Create (data_path file.partition file.file at) bytes)) q × Keeps now opening (with_made (Create q more) at latest (one_made bytes at))) (sym path)
-      (subst (λ (t : ℕ). IsAbsent (with_change s.journal (Create (data_path file.partition file.file t) bytes)) (files_log_path t) × Keeps now opening (two_made bytes more t)) (sym next)
-          (log_is_absent now opening s keeps sure file plot fits_next bytes,
-           log_keeps now opening s keeps sure file plot fits_next latest bytes more (subst (λ (t : ℕ). Keeps now opening (one_made bytes t)) next (subst (Keeps now opening) is k)))))
+      (subst (λ (t : ℕ). IsAbsent (with_change s.journal (Create (data_path file.partition file.file t) bytes)) (files_log_path t) × Keeps now opening (two_made bytes more t)) (sym next) (
+        log_is_absent now opening s keeps sure file plot fits_next bytes,
+        log_keeps now opening s keeps sure file plot fits_next latest bytes more (subst (λ (t : ℕ). Keeps now opening (one_made bytes t)) next (subst (Keeps now opening) is k)),
+      )))
 
   pub log_made : (during after : Standing) (p bytes more : List ℕ) → during ≡ one_made bytes at → p ≡ files_log_path at → after ≡ with_made (Create p more) at latest during → after ≡ two_made bytes more at
   log_made during after p bytes more is path made =
@@ -152,10 +156,11 @@ module _ (now : ℕ) (opening : Option (List Change)) (s : Standing) (keeps : Ke
       subst (λ (d : Standing). IsAbsent d.journal p × Keeps now opening (with_made (Create p meta) at (finmap.insert latest group at) d)) (sym is)
       (subst (λ (q : List ℕ). IsAbsent (with_change (with_change s.journal (Create (data_path file.partition file.file at) bytes)) (Create (files_log_path at) more)) q × Keeps now opening (with_made (Create q meta) at (finmap.insert latest group at) (two_made bytes more at))) (sym path)
       (subst (λ (g : List ℕ). IsAbsent (with_change (with_change s.journal (Create (data_path file.partition file.file at) bytes)) (Create (files_log_path at) more)) (commit_path at) × Keeps now opening (with_made (Create (commit_path at) meta) at (finmap.insert latest g at) (two_made bytes more at))) (sym named)
-      (subst (λ (t : ℕ). IsAbsent (with_change (with_change s.journal (Create (data_path file.partition file.file t) bytes)) (Create (files_log_path t) more)) (commit_path t) × Keeps now opening (three_made bytes more meta t)) (sym next)
-          (commit_is_absent now opening s keeps sure file plot fits_next bytes more,
-           commit_keeps now opening s keeps sure file plot fits_next latest before bytes more meta (subst (λ (t : ℕ). Keeps now opening (two_made bytes more t)) next (subst (Keeps now opening) is k))
-               (subst (λ (t : ℕ). added_of more ≡ Some (added_by_commit file t)) next added) (subst (λ (t : ℕ). commit_meta_of meta ≡ Some (meta_of_commit file t before)) next says)))))
+      (subst (λ (t : ℕ). IsAbsent (with_change (with_change s.journal (Create (data_path file.partition file.file t) bytes)) (Create (files_log_path t) more)) (commit_path t) × Keeps now opening (three_made bytes more meta t)) (sym next) (
+        commit_is_absent now opening s keeps sure file plot fits_next bytes more,
+        commit_keeps now opening s keeps sure file plot fits_next latest before bytes more meta (subst (λ (t : ℕ). Keeps now opening (two_made bytes more t)) next (subst (Keeps now opening) is k))
+            (subst (λ (t : ℕ). added_of more ≡ Some (added_by_commit file t)) next added) (subst (λ (t : ℕ). commit_meta_of meta ≡ Some (meta_of_commit file t before)) next says),
+      ))))
 
   -- ---- the changes that were made
 
@@ -188,8 +193,8 @@ module _ (now : ℕ) (opening : Option (List Change)) (s : Standing) (keeps : Ke
     data_fails during after p bytes e is path text makes = ends_early file before at latest 0 (Create p bytes) s during after e
         (ap (λ (d : Standing). d.journal) is ∙ with_none s.journal)
         (ap (λ (d : Standing). with_change d.journal (Create p bytes)) is
-            ∙ ap (λ (q : List ℕ). with_change s.journal (Create q bytes)) path ∙ ap (λ (b : List ℕ). with_change s.journal (Create (data_path file.partition file.file at) b)) text
-            ∙ one ∙ ap (λ (cs : List Change). with_changes s.journal (take 1 cs)) next_changes)
+        ∙ ap (λ (q : List ℕ). with_change s.journal (Create q bytes)) path ∙ ap (λ (b : List ℕ). with_change s.journal (Create (data_path file.partition file.file at) b)) text
+        ∙ one ∙ ap (λ (cs : List Change). with_changes s.journal (take 1 cs)) next_changes)
         (let e = ap (λ (d : Standing). d.applied) is in omega (arith, e))
         (ap (λ (d : Standing). d.settled) is ∙ sure)
         makes
@@ -207,7 +212,7 @@ module _ (now : ℕ) (opening : Option (List Change)) (s : Standing) (keeps : Ke
     log_fails during after p bytes e is path text makes = ends_early file before at latest 1 (Create p more) s during after e
         (after_one bytes during is text ∙ ap (λ (cs : List Change). with_changes s.journal (take 1 cs)) next_changes)
         (ap (λ (q : List ℕ). with_change during.journal (Create q more)) path ∙ ap (λ (j : Option (List Change)). with_change j (Create (files_log_path at) more)) (after_one bytes during is text)
-            ∙ two ∙ ap (λ (cs : List Change). with_changes s.journal (take 2 cs)) next_changes)
+        ∙ two ∙ ap (λ (cs : List Change). with_changes s.journal (take 2 cs)) next_changes)
         (ap (λ (d : Standing). d.applied) is)
         (ap (λ (d : Standing). d.settled) is)
         makes
@@ -218,7 +223,7 @@ module _ (now : ℕ) (opening : Option (List Change)) (s : Standing) (keeps : Ke
     commit_fails during after p group bytes e is path text makes = ends_early file before at (finmap.insert latest group at) 2 (Create p meta) s during after e
         (after_two bytes during is text ∙ ap (λ (cs : List Change). with_changes s.journal (take 2 cs)) next_changes)
         (ap (λ (q : List ℕ). with_change during.journal (Create q meta)) path ∙ ap (λ (j : Option (List Change)). with_change j (Create (commit_path at) meta)) (after_two bytes during is text)
-            ∙ three ∙ ap (λ (cs : List Change). with_changes s.journal (take 3 cs)) next_changes)
+        ∙ three ∙ ap (λ (cs : List Change). with_changes s.journal (take 3 cs)) next_changes)
         (let a = ap (λ (d : Standing). d.applied) is in omega (arith, a))
         (ap (λ (d : Standing). d.settled) is)
         makes

@@ -38,7 +38,7 @@ module _ (o : Objects) (p bytes : List ℕ) (t : ℕ) (a : Action) (is_commit : 
     (p, a, made p refl, sym (instant_of_action t bytes a reads), names),
     λ q b found named. ⊎_elim
         (λ (same : q ≡ p). let e : a ≡ b = some_injective a b (sym (made q same) ∙ found) in
-            let h : t ≡ b.at = instant_of_action t bytes a reads ∙ ap (λ (x : Action). x.at) e in omega (arith, h))
+        let h : t ≡ b.at = instant_of_action t bytes a reads ∙ ap (λ (x : Action). x.at) e in omega (arith, h))
         (λ (differ : q ≢ p). below q b (sym (action_at-unlike o p bytes q differ) ∙ found))
         (cases_path q p),
   )

@@ -114,9 +114,9 @@ module _ (o : Objects) (each : EachIsLogged o) where
       let is : instants ≡ map (λ (a : Action). a.at) (completed_actions o) = listed ∙ instants_are in
       let at_is : at ≡ newest (completed_actions o) = newest_is ∙ ap greatest is ∙ fold_max 0 (completed_actions o) ∙ none_below (newest (completed_actions o)) in
       let words : words_of o instants ≡ listed_files (completed_actions o) = ap (words_of o) is ∙ flat_map-map _ _ (completed_actions o)
-        ∙ flat_map_same (λ (a : Action). words_at o (files_log_path a.at)) files_of (completed_actions o) (says_all (finmap.keys o)) in
+      ∙ flat_map_same (λ (a : Action). words_at o (files_log_path a.at)) files_of (completed_actions o) (says_all (finmap.keys o)) in
       let sizes_are : sizes ≡ sizes_in (maps_at o (newest (completed_actions o))) partition = logged ∙ ap (sizes_of partition finmap.empty) words ∙ sym (sizes_in-files_map (listed_files (completed_actions o)) partition)
-        ∙ ap (λ (actions : List Action). sizes_in (maps_of actions) partition) (sym (actions_upto-newest (completed_actions o))) in
+      ∙ ap (λ (actions : List Action). sizes_in (maps_of actions) partition) (sym (actions_upto-newest (completed_actions o))) in
       ap (λ (n : ℕ). Files n (file_sizes sizes)) at_is ∙ ap (λ (m : NumberMap). Files (newest (completed_actions o)) (file_sizes m)) sizes_are
     where
       none_below : (n : ℕ) → max 0 n ≡ n
@@ -145,4 +145,4 @@ pub files_found : (now : ℕ) (opening : Option (List Change)) (s during : Stand
 files_found now opening s during keeps same partition instants sizes at files listed logged newest_is files_are =
     subst (λ (fs : List FileSize). IfSome s.journal (λ (j : List Change). Files at fs ≡ files_reply partition (objects_of j))) (sym files_are)
     (looked_told now opening s.journal s.last s.applied s.settled s.latest keeps partition instants sizes at listed
-        (subst (λ (d : Standing). IfSome d.journal (λ (j : List Change). sizes ≡ sizes_of partition finmap.empty (words_of (objects_of j) instants))) same logged) newest_is)
+    (subst (λ (d : Standing). IfSome d.journal (λ (j : List Change). sizes ≡ sizes_of partition finmap.empty (words_of (objects_of j) instants))) same logged) newest_is)

@@ -115,7 +115,7 @@ module _ (now : ℕ) (opening journal : List Change) (last applied : ℕ) (lates
       → IsKept now opening (journal ++ Create (files_log_path last) bytes ∷ []) last (applied + 1) true latest
   keeps-log bytes fresh = more (files_log_path last) bytes last latest
       (each_is_logged-other (objects_of journal) (files_log_path last) bytes here (commit_instant-files_log_path last)
-          (λ q a is same. fresh q a is (files_log_path-injective a.at last (small q a is) sure.last_fits same)))
+      (λ q a is same. fresh q a is (files_log_path-injective a.at last (small q a is) sure.last_fits same)))
       (same_last (files_log_path last) bytes (starts_with-files_log_path last))
       sure.last_fits
       (names-more (objects_of journal) last last (files_log_path last) bytes sure.names (omega arith) (let e = name_instant-files_log_path last sure.last_fits in omega (arith, e)))
@@ -147,15 +147,15 @@ module _ (now : ℕ) (opening journal : List Change) (last applied : ℕ) (lates
       groups : (other : List ℕ) → IsLatest (finmap.insert o p bytes) other (instant_or_none (finmap.get (finmap.insert latest group last) other))
       groups other = ⊎_elim
           (λ (same : other ≡ group).
-              let got : finmap.get (finmap.insert latest group last) other ≡ Some last = get-insert nat_list_cmp_total latest group last other ∙ ap (λ (b : Bool). cond b (Some last) (finmap.get latest other)) (tied same) in
-              let newest : instant_or_none (finmap.get (finmap.insert latest group last) other) ≡ Some last = ap instant_or_none got ∙ instant-some last some in
-              subst (λ (x : Option ℕ). IsLatest (finmap.insert o p bytes) other x) (sym newest)
-                  (latest-named o p bytes last a is_commit reads other (names other ∙ (bytes_eq-Decides group other).1 (sym same)) (λ q b is. action-named o last q b sure.names is)))
+          let got : finmap.get (finmap.insert latest group last) other ≡ Some last = get-insert nat_list_cmp_total latest group last other ∙ ap (λ (b : Bool). cond b (Some last) (finmap.get latest other)) (tied same) in
+          let newest : instant_or_none (finmap.get (finmap.insert latest group last) other) ≡ Some last = ap instant_or_none got ∙ instant-some last some in
+          subst (λ (x : Option ℕ). IsLatest (finmap.insert o p bytes) other x) (sym newest)
+          (latest-named o p bytes last a is_commit reads other (names other ∙ (bytes_eq-Decides group other).1 (sym same)) (λ q b is. action-named o last q b sure.names is)))
           (λ (differ : other ≢ group).
-              let got : finmap.get (finmap.insert latest group last) other ≡ finmap.get latest other = get-insert nat_list_cmp_total latest group last other ∙ ap (λ (b : Bool). cond b (Some last) (finmap.get latest other)) (path_other other group differ) in
-              subst (λ (x : Option ℕ). IsLatest (finmap.insert o p bytes) other x) (sym (ap instant_or_none got))
-                  (latest-unnamed o p bytes last a is_commit reads other (instant_or_none (finmap.get latest other))
-                      (names other ∙ false_from_ne_true (bytes_eq group other) (λ is. differ (sym ((bytes_eq-Decides group other).0 is)))) absent (sure.groups other)))
+          let got : finmap.get (finmap.insert latest group last) other ≡ finmap.get latest other = get-insert nat_list_cmp_total latest group last other ∙ ap (λ (b : Bool). cond b (Some last) (finmap.get latest other)) (path_other other group differ) in
+          subst (λ (x : Option ℕ). IsLatest (finmap.insert o p bytes) other x) (sym (ap instant_or_none got))
+          (latest-unnamed o p bytes last a is_commit reads other (instant_or_none (finmap.get latest other))
+          (names other ∙ false_from_ne_true (bytes_eq group other) (λ is. differ (sym ((bytes_eq-Decides group other).0 is)))) absent (sure.groups other)))
           (cases_path other group)
         where
           tied : other ≡ group → eq_by_cmp (slice_cmp nat_cmp) other group ≡ true
@@ -181,7 +181,7 @@ begins-nothing now journal latest some fits nothing empty = record {
     count = omega arith;
     groups = λ group. subst (λ (m : NumberMap). IsLatest (objects_of journal) group (instant_or_none (finmap.get m group))) (sym empty)
         (subst (λ (x : Option ℕ). IsLatest (objects_of journal) group (instant_or_none x)) (sym (get-empty (slice_cmp nat_cmp) group))
-            (λ q a is. absurd (nothing_at q (stands-action (objects_of journal) q a is))));
+        (λ q a is. absurd (nothing_at q (stands-action (objects_of journal) q a is))));
   };
 }
   where
@@ -233,9 +233,9 @@ small-cases : (o : Objects) (group : List ℕ) (n : ℕ) → IsLatest o group (i
 small-cases o group n is = ⊎_elim
     (λ (none : n ≡ 0). omega (arith, none))
     (λ (some : 0 < n).
-        let newest = subst (λ (x : Option ℕ). IsLatest o group x) (instant-some n some) is in
-        let commit = IsCommitAt-commit_instant newest.0.0 newest.0.1.at (commit_instant-action o newest.0.0 newest.0.1 newest.0.2) in
-        omega (arith, commit.small, newest.0.3))
+    let newest = subst (λ (x : Option ℕ). IsLatest o group x) (instant-some n some) is in
+    let commit = IsCommitAt-commit_instant newest.0.0 newest.0.1.at (commit_instant-action o newest.0.0 newest.0.1 newest.0.2) in
+    omega (arith, commit.small, newest.0.3))
     (zero_or_some n)
   where
     zero_or_some : (n : ℕ) → (n ≡ 0) ⊎ (0 < n)

@@ -112,11 +112,7 @@ fn add_words(
     Ok(())
 }
 
-fn add_word(
-    sizes: &mut Numbers,
-    partition: &Partition,
-    word: &AddedFile,
-) -> Result<(), AllocError>
+fn add_word(sizes: &mut Numbers, partition: &Partition, word: &AddedFile) -> Result<(), AllocError>
     ensures { OnOk result (sizes.new ≡ with_file_in partition.now sizes.old word.now) }
 {
     if word.partition.as_str() == partition.as_str() {

@@ -95,7 +95,13 @@ impl<S: Store, N: Named> World<S, N> {
     }
 
     // Makes an object that keeps the table.
-    pub(crate) fn make(&mut self, alloc: Global, at: Instant, path: &Path, bytes: &[u8]) -> Result<(), StoreError>
+    pub(crate) fn make(
+        &mut self,
+        alloc: Global,
+        at: Instant,
+        path: &Path,
+        bytes: &[u8],
+    ) -> Result<(), StoreError>
         requires settled { self.old.settled ≡ true }
         requires room { self.old.applied + 1 < 2 ^ 64 }
         requires absent { IsAbsent (S.journal self.old.store) path.now }

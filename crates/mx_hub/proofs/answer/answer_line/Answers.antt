@@ -9,4 +9,4 @@ use Rattle.mx_hub.proofs.answer.answer_line.Goals as goal
 pub returns-in-Err-NotAnAsk-clause-answered : goal.returns-in-Err-NotAnAsk-clause-answered
 returns-in-Err-NotAnAsk-clause-answered g c =
     answered_refused g.N.Named.moment g.N.Named.opening (g.S.Store.journal c.args.world.now.store) (Whole c.args.bytes.now) _ c.args.number c.refused.result c.refused.ensures.refused
-        (λ bytes same. inl (subst IsNoAsk (c.as_slice.ensures ∙ same.0) (c.ask_of.ensures.not_an_ask (search rules)), refl))
+    (λ bytes same. inl (subst IsNoAsk (c.as_slice.ensures ∙ same.0) (c.ask_of.ensures.not_an_ask (search rules)), refl))

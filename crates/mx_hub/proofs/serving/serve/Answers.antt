@@ -13,7 +13,6 @@ use Rattle.mx_hub.specs.Steps.{FitsIf}
 use Rattle.mx_hub.proofs.Histories.{answered_ends, fits_push, history_ended, history_now, all_answered, fits_nothing, answers_count, written-push, written-part}
 use Rattle.mx_hub.proofs.serving.serve.Goals as goal
 
-
 -- the answers are those that were kept
 kept_as : (now : ℕ) (opening journal : Option (List Change)) (input : Option (List ℕ)) (answers kept : List Answered) → kept ≡ answers → HistoryIf now opening journal input answers → HistoryIf now opening journal input kept
 kept_as now opening journal input answers kept is h = subst (λ (l : List Answered). HistoryIf now opening journal input l) (sym is) h
@@ -36,25 +35,25 @@ pub returns-in-Ok-None-clause-history : goal.returns-in-Ok-None-clause-history
 returns-in-Ok-None-clause-history g c =
     let i = c.loop-line.invariant in
     kept_as g.N.Named.moment g.N.Named.opening (g.S.Store.journal c.loop-line.world.store) (g.I.Source.left c.args.source.now) c.loop-line.answers c.stop_with-in-Ok-None.result.answers c.stop_with-in-Ok-None.ensures.answers
-        (history_now g.N.Named.moment g.N.Named.opening (g.S.Store.journal c.loop-line.world.store) (g.I.Source.left c.args.source.now) _ i.lines c.loop-line.answers i.fits i.taken)
+    (history_now g.N.Named.moment g.N.Named.opening (g.S.Store.journal c.loop-line.world.store) (g.I.Source.left c.args.source.now) _ i.lines c.loop-line.answers i.fits i.taken)
 
 pub returns-in-Err-NoMemory-clause-history : goal.returns-in-Err-NoMemory-clause-history
 returns-in-Err-NoMemory-clause-history g c =
     let i = c.loop-line.invariant in
     kept_as g.N.Named.moment g.N.Named.opening (g.S.Store.journal c.loop-line.world.store) (g.I.Source.left c.args.source.now) c.loop-line.answers c.stop_with-in-Err-NoMemory.result.answers c.stop_with-in-Err-NoMemory.ensures.answers
-        (history_now g.N.Named.moment g.N.Named.opening (g.S.Store.journal c.loop-line.world.store) (g.I.Source.left c.args.source.now) _ i.lines c.loop-line.answers i.fits i.taken)
+    (history_now g.N.Named.moment g.N.Named.opening (g.S.Store.journal c.loop-line.world.store) (g.I.Source.left c.args.source.now) _ i.lines c.loop-line.answers i.fits i.taken)
 
 pub returns-in-Err-Fault-clause-history : goal.returns-in-Err-Fault-clause-history
 returns-in-Err-Fault-clause-history g c =
     let i = c.loop-line.invariant in
     kept_as g.N.Named.moment g.N.Named.opening (g.S.Store.journal c.loop-line.world.store) (g.I.Source.left c.args.source.now) c.loop-line.answers c.stop_with-in-Err-Fault.result.answers c.stop_with-in-Err-Fault.ensures.answers
-        (history_now g.N.Named.moment g.N.Named.opening (g.S.Store.journal c.loop-line.world.store) (g.I.Source.left c.args.source.now) _ i.lines c.loop-line.answers i.fits i.taken)
+    (history_now g.N.Named.moment g.N.Named.opening (g.S.Store.journal c.loop-line.world.store) (g.I.Source.left c.args.source.now) _ i.lines c.loop-line.answers i.fits i.taken)
 
 pub returns-in-Err-TooLong-clause-history : goal.returns-in-Err-TooLong-clause-history
 returns-in-Err-TooLong-clause-history g c =
     let i = c.loop-line.invariant in
     kept_as g.N.Named.moment g.N.Named.opening (g.S.Store.journal c.loop-line.world.store) (g.I.Source.left c.args.source.now) c.loop-line.answers c.stop_with-in-Err-TooLong.result.answers c.stop_with-in-Err-TooLong.ensures.answers
-        (history_now g.N.Named.moment g.N.Named.opening (g.S.Store.journal c.loop-line.world.store) (g.I.Source.left c.args.source.now) _ i.lines c.loop-line.answers i.fits i.taken)
+    (history_now g.N.Named.moment g.N.Named.opening (g.S.Store.journal c.loop-line.world.store) (g.I.Source.left c.args.source.now) _ i.lines c.loop-line.answers i.fits i.taken)
 
 nothing_left : (a : List ℕ) (left : Option (List ℕ)) → IfSome (before a left) (λ (l : List ℕ). l ≡ []) → IfSome left (λ (l : List ℕ). l ≡ [])
 nothing_left a None none = tt
@@ -69,37 +68,37 @@ pub returns-in-Ok-None-clause-done : goal.returns-in-Ok-None-clause-done
 returns-in-Ok-None-clause-done g c = λ _.
     let i = c.loop-line.invariant in
     counted (g.I.Source.left c.args.source.now) i.lines c.loop-line.answers c.stop_with-in-Ok-None.result.answers c.stop_with-in-Ok-None.ensures.answers
-        (answers_count g.N.Named.moment g.N.Named.opening (g.S.Store.journal c.loop-line.world.store) i.lines c.loop-line.answers i.fits)
-        (lines_done (g.I.Source.left c.args.source.now) i.lines _ i.taken (rw c.in-Ok-None.field-0-is at c.in-Ok-None.ensures.line))
+    (answers_count g.N.Named.moment g.N.Named.opening (g.S.Store.journal c.loop-line.world.store) i.lines c.loop-line.answers i.fits)
+    (lines_done (g.I.Source.left c.args.source.now) i.lines _ i.taken (rw c.in-Ok-None.field-0-is at c.in-Ok-None.ensures.line))
 
 pub returns-in-Ok-None-clause-read : goal.returns-in-Ok-None-clause-read
 returns-in-Ok-None-clause-read g c = λ _.
     nothing_left c.next_line.new.ahead.ahead (g.I.Source.left c.next_line.new.source)
-        (subst (λ (o : Option (List ℕ)). IfSome o (λ (l : List ℕ). l ≡ [])) (sym (rw c.in-Ok-None.field-0-is at c.in-Ok-None.ensures.end)) (rw c.in-Ok-None.field-0-is at c.in-Ok-None.ensures.line))
+    (subst (λ (o : Option (List ℕ)). IfSome o (λ (l : List ℕ). l ≡ [])) (sym (rw c.in-Ok-None.field-0-is at c.in-Ok-None.ensures.end)) (rw c.in-Ok-None.field-0-is at c.in-Ok-None.ensures.line))
 
 pub returns-in-Err-clause-history : goal.returns-in-Err-clause-history
 returns-in-Err-clause-history g c =
     let i = c.loop-line.invariant in
     kept_as g.N.Named.moment g.N.Named.opening (g.S.Store.journal c.answer.new.world.store) (g.I.Source.left c.args.source.now) c.loop-line.answers c.stop_with-in-Err.result.answers c.stop_with-in-Err.ensures.answers
-        (history_ended g.N.Named.moment g.N.Named.opening (g.S.Store.journal c.loop-line.world.store) (g.S.Store.journal c.answer.new.world.store) (g.I.Source.left c.args.source.now) _ i.lines c.loop-line.answers i.fits i.taken c.in-Err.ensures.early)
+    (history_ended g.N.Named.moment g.N.Named.opening (g.S.Store.journal c.loop-line.world.store) (g.S.Store.journal c.answer.new.world.store) (g.I.Source.left c.args.source.now) _ i.lines c.loop-line.answers i.fits i.taken c.in-Err.ensures.early)
 
 pub returns-in-Err-keep-clause-history : goal.returns-in-Err-keep-clause-history
 returns-in-Err-keep-clause-history g c =
     let i = c.loop-line.invariant in
     let one = line_on (g.I.Source.left c.args.source.now) i.lines _ c.in-Ok-Some.line _ i.taken (rw c.in-Ok-Some.field-0-is at c.in-Ok-Some.ensures.line) in
     kept_as g.N.Named.moment g.N.Named.opening (g.S.Store.journal c.answer.new.world.store) (g.I.Source.left c.args.source.now) c.loop-line.answers c.stop_with-in-Err-keep.result.answers (c.stop_with-in-Err-keep.ensures.answers ∙ c.in-Err-keep.ensures.err)
-        (history_ended g.N.Named.moment g.N.Named.opening (g.S.Store.journal c.loop-line.world.store) (g.S.Store.journal c.answer.new.world.store) (g.I.Source.left c.args.source.now) _ i.lines c.loop-line.answers i.fits i.taken
-            (answered_ends g.N.Named.moment g.N.Named.opening (g.S.Store.journal c.loop-line.world.store) (g.S.Store.journal c.answer.new.world.store) c.in-Ok-Some.line c.len-number.result c.in-Ok-answer.answered one.0 one.1 c.in-Ok-answer.ensures.answered))
+    (history_ended g.N.Named.moment g.N.Named.opening (g.S.Store.journal c.loop-line.world.store) (g.S.Store.journal c.answer.new.world.store) (g.I.Source.left c.args.source.now) _ i.lines c.loop-line.answers i.fits i.taken
+    (answered_ends g.N.Named.moment g.N.Named.opening (g.S.Store.journal c.loop-line.world.store) (g.S.Store.journal c.answer.new.world.store) c.in-Ok-Some.line c.len-number.result c.in-Ok-answer.answered one.0 one.1 c.in-Ok-answer.ensures.answered))
 
 pub returns-in-Err-write_all-clause-history : goal.returns-in-Err-write_all-clause-history
 returns-in-Err-write_all-clause-history g c =
     let i = c.loop-line.invariant in
     let one = line_on (g.I.Source.left c.args.source.now) i.lines _ c.in-Ok-Some.line _ i.taken (rw c.in-Ok-Some.field-0-is at c.in-Ok-Some.ensures.line) in
     kept_as g.N.Named.moment g.N.Named.opening (g.S.Store.journal c.answer.new.world.store) (g.I.Source.left c.args.source.now) (c.loop-line.answers ++ c.in-Ok-answer.answered ∷ []) c.stop_with-in-Err-write_all.result.answers
-        (c.stop_with-in-Err-write_all.ensures.answers ∙ c.in-Ok-keep.ensures.kept)
-        (history_now g.N.Named.moment g.N.Named.opening (g.S.Store.journal c.answer.new.world.store) (g.I.Source.left c.args.source.now) _ (i.lines ++ one.0 ∷ []) (c.loop-line.answers ++ c.in-Ok-answer.answered ∷ [])
-            (fits_push g.N.Named.moment g.N.Named.opening (g.S.Store.journal c.loop-line.world.store) (g.S.Store.journal c.answer.new.world.store) i.lines c.loop-line.answers c.in-Ok-Some.line c.len-number.result c.in-Ok-answer.answered one.0 one.1 (c.len-number.ensures) i.fits c.in-Ok-answer.ensures.answered)
-            one.2)
+    (c.stop_with-in-Err-write_all.ensures.answers ∙ c.in-Ok-keep.ensures.kept)
+    (history_now g.N.Named.moment g.N.Named.opening (g.S.Store.journal c.answer.new.world.store) (g.I.Source.left c.args.source.now) _ (i.lines ++ one.0 ∷ []) (c.loop-line.answers ++ c.in-Ok-answer.answered ∷ [])
+    (fits_push g.N.Named.moment g.N.Named.opening (g.S.Store.journal c.loop-line.world.store) (g.S.Store.journal c.answer.new.world.store) i.lines c.loop-line.answers c.in-Ok-Some.line c.len-number.result c.in-Ok-answer.answered one.0 one.1 (c.len-number.ensures) i.fits c.in-Ok-answer.ensures.answered)
+    one.2)
 
 pub returns-in-Err-write_all-clause-part : goal.returns-in-Err-write_all-clause-part
 returns-in-Err-write_all-clause-part g c = λ _.

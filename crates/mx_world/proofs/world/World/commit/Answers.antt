@@ -106,7 +106,7 @@ returns-in_err-make-clause-commits g c =
     let before = instant_or_none (finmap.get c.args.self.now.latest (group_name c.args.file.now.partition c.args.file.now.file)) in
     let e = c.in_err-make.field-0.0 in
     subst (λ r. Commits c.args.file.now before s s2 r) (sym (err_as c.from_residual-in_err-make.result e c.from_residual-in_err-make.ensures.0 c.from_residual-in_err-make.ensures.1))
-        (data_fails g.N.Named.moment g.N.Named.opening s c.last.ensures.kept c.requires.settled c.args.file.now c.in_ok-plan.ensures.partition c.in-Some.at n.is n.fits c.prepare.new.self.latest before _ _ refl refl s1 s2 c.in_ok-plan.plan.data_file c.as_bytes.result.now e c.prepare.ensures.same plan.data_file text (rw c.in_err-make.was at c.make.ensures.makes))
+    (data_fails g.N.Named.moment g.N.Named.opening s c.last.ensures.kept c.requires.settled c.args.file.now c.in_ok-plan.ensures.partition c.in-Some.at n.is n.fits c.prepare.new.self.latest before _ _ refl refl s1 s2 c.in_ok-plan.plan.data_file c.as_bytes.result.now e c.prepare.ensures.same plan.data_file text (rw c.in_err-make.was at c.make.ensures.makes))
 
 pub returns-in_err-make-2-clause-commits : goal.returns-in_err-make-2-clause-commits
 returns-in_err-make-2-clause-commits g c =
@@ -122,8 +122,8 @@ returns-in_err-make-2-clause-commits g c =
     let before = instant_or_none (finmap.get c.args.self.now.latest (group_name c.args.file.now.partition c.args.file.now.file)) in
     let e = c.in_err-make-2.field-0.0 in
     subst (λ r. Commits c.args.file.now before s s3 r) (sym (err_as c.from_residual-in_err-make-2.result e c.from_residual-in_err-make-2.ensures.0 c.from_residual-in_err-make-2.ensures.1))
-        (log_fails g.N.Named.moment g.N.Named.opening s c.last.ensures.kept c.requires.settled c.args.file.now c.in_ok-plan.ensures.partition c.in-Some.at n.is n.fits c.prepare.new.self.latest before c.as_slice.result.now _ (c.as_slice.ensures ∙ plan.added) refl s2 s3 c.in_ok-plan.plan.log c.as_bytes.result.now e one plan.log text
-            (subst (λ (m : NumberMap). Makes (Create c.in_ok-plan.plan.log c.as_slice.result.now) c.in-Some.at m s2 s3 (Err e)) l1 (rw c.in_err-make-2.was at c.make-2.ensures.makes)))
+    (log_fails g.N.Named.moment g.N.Named.opening s c.last.ensures.kept c.requires.settled c.args.file.now c.in_ok-plan.ensures.partition c.in-Some.at n.is n.fits c.prepare.new.self.latest before c.as_slice.result.now _ (c.as_slice.ensures ∙ plan.added) refl s2 s3 c.in_ok-plan.plan.log c.as_bytes.result.now e one plan.log text
+    (subst (λ (m : NumberMap). Makes (Create c.in_ok-plan.plan.log c.as_slice.result.now) c.in-Some.at m s2 s3 (Err e)) l1 (rw c.in_err-make-2.was at c.make-2.ensures.makes)))
 
 pub returns-in_err-complete-clause-commits : goal.returns-in_err-complete-clause-commits
 returns-in_err-complete-clause-commits g c =
@@ -142,8 +142,8 @@ returns-in_err-complete-clause-commits g c =
     let s4 = standing g.S.Store.journal c.complete.new.self in
     let e = c.in_err-complete.field-0.0 in
     subst (λ r. Commits c.args.file.now before s s4 r) (sym (err_as c.from_residual-in_err-complete.result e c.from_residual-in_err-complete.ensures.0 c.from_residual-in_err-complete.ensures.1))
-        (commit_fails g.N.Named.moment g.N.Named.opening s c.last.ensures.kept c.requires.settled c.args.file.now c.in_ok-plan.ensures.partition c.in-Some.at n.is n.fits c.prepare.new.self.latest before c.as_slice.result.now c.as_slice-2.result.now (c.as_slice.ensures ∙ plan.added) (c.as_slice-2.ensures ∙ plan.meta) s3 s4 c.in_ok-plan.plan.commit c.in_ok-plan.plan.group c.as_bytes.result.now e two plan.commit text
-            (subst (λ (m : NumberMap). Makes (Create c.in_ok-plan.plan.commit c.as_slice-2.result.now) c.in-Some.at (finmap.insert m c.in_ok-plan.plan.group c.in-Some.at) s3 s4 (Err e)) l2 (rw c.in_err-complete.was at c.complete.ensures.makes)))
+    (commit_fails g.N.Named.moment g.N.Named.opening s c.last.ensures.kept c.requires.settled c.args.file.now c.in_ok-plan.ensures.partition c.in-Some.at n.is n.fits c.prepare.new.self.latest before c.as_slice.result.now c.as_slice-2.result.now (c.as_slice.ensures ∙ plan.added) (c.as_slice-2.ensures ∙ plan.meta) s3 s4 c.in_ok-plan.plan.commit c.in_ok-plan.plan.group c.as_bytes.result.now e two plan.commit text
+    (subst (λ (m : NumberMap). Makes (Create c.in_ok-plan.plan.commit c.as_slice-2.result.now) c.in-Some.at (finmap.insert m c.in_ok-plan.plan.group c.in-Some.at) s3 s4 (Err e)) l2 (rw c.in_err-complete.was at c.complete.ensures.makes)))
 
 pub returns-clause-commits : goal.returns-clause-commits
 returns-clause-commits g c =
@@ -159,8 +159,10 @@ returns-clause-commits g c =
     let l2 = ap (λ (x : Standing). x.latest) two in
     let before = instant_or_none (finmap.get c.args.self.now.latest (group_name c.args.file.now.partition c.args.file.now.file)) in
     let text = c.as_bytes.ensures.value ∙ c.as_str.ensures in
-    let s4 = standing g.S.Store.journal c.complete.new.self in
-    (n.is, n.fits, plan.files,
-     commit_made g.N.Named.moment g.N.Named.opening s c.last.ensures.kept c.requires.settled c.args.file.now c.in_ok-plan.ensures.partition c.in-Some.at n.is n.fits c.prepare.new.self.latest before c.as_slice.result.now c.as_slice-2.result.now (c.as_slice.ensures ∙ plan.added) (c.as_slice-2.ensures ∙ plan.meta) s3 s4 c.in_ok-plan.plan.commit c.in_ok-plan.plan.group c.as_bytes.result.now two plan.commit text
-         (c.in_ok-complete.ensures.makes ∙ ap (λ (m : NumberMap). with_made (Create c.in_ok-plan.plan.commit c.as_slice-2.result.now) c.in-Some.at (finmap.insert m c.in_ok-plan.plan.group c.in-Some.at) s3) l2))
-
+    let s4 = standing g.S.Store.journal c.complete.new.self in (
+      n.is,
+      n.fits,
+      plan.files,
+      commit_made g.N.Named.moment g.N.Named.opening s c.last.ensures.kept c.requires.settled c.args.file.now c.in_ok-plan.ensures.partition c.in-Some.at n.is n.fits c.prepare.new.self.latest before c.as_slice.result.now c.as_slice-2.result.now (c.as_slice.ensures ∙ plan.added) (c.as_slice-2.ensures ∙ plan.meta) s3 s4 c.in_ok-plan.plan.commit c.in_ok-plan.plan.group c.as_bytes.result.now two plan.commit text
+          (c.in_ok-complete.ensures.makes ∙ ap (λ (m : NumberMap). with_made (Create c.in_ok-plan.plan.commit c.as_slice-2.result.now) c.in-Some.at (finmap.insert m c.in_ok-plan.plan.group c.in-Some.at) s3) l2),
+    )

@@ -14,7 +14,7 @@ invariant_of-self-2 g c =
     let none : finmap.get c.self.inside.latest c.args.group.now ≡ None = search rules in
     let is = made c.self.inside.latest c.insert.new.self _ c.args.group.now c.in_ok-insert.ensures.ok (search rules) in
     subst (λ (m : NumberMap). KeptIf g.N.Named.moment g.N.Named.opening (g.S.Store.journal c.self.inside.store) c.self.inside.last c.self.inside.applied c.self.inside.settled m) (sym is)
-        (told-place _ _ _ _ _ _ c.self.inside.latest c.args.group.now none c.self.invariant)
+    (told-place _ _ _ _ _ _ c.self.inside.latest c.args.group.now none c.self.invariant)
 
 pub returns-clause-kept : goal.returns-clause-kept
 returns-clause-kept g c = invariant_of-self-2 g c

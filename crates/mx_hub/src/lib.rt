@@ -8,4 +8,4 @@
 mod answer;
 mod serving;
 
-pub use serving::{Served, Stop, serve};
+pub use serving::{Served, Status, serve};

@@ -11,12 +11,14 @@ use mx_store::{Named, Sink, Source, Store};
 use mx_world::{Answered, World};
 use std::alloc::{AllocError, Global};
 
-/// Why no further line was taken.
+/// How a call ended.
 #[derive(Clone, Copy, Debug, PartialEq, Eq)]
-pub enum Stop {
+pub enum Status {
     /// The input was read to its end.
     Done,
     NoMemory,
+    /// The words are those of no command.
+    Words,
     SourceFault,
     SinkFault,
     StoreFault,
@@ -27,7 +29,7 @@ pub enum Stop {
 /// The end of the lines, and the answers in the order in which they were kept.
 #[derive(Drop)]
 pub struct Served {
-    pub stop: Stop,
+    pub status: Status,
     pub answers: Listed<Answered>,
 }
 
@@ -41,40 +43,41 @@ pub fn serve<S: Store, I: Source, O: Sink, N: Named>(
     requires settled { world.old.settled ≡ true }
     requires fresh { world.old.applied ≡ 0 }
     ensures history { HistoryIf N.moment N.opening (S.journal world.new.store) (I.left source.old) result.answers }
-    ensures done { result.stop ≡ Stop.Done → IfSome (I.left source.old) (λ input. length result.answers ≡ length (lines_of input)) }
-    ensures all { result.stop ≡ Stop.Done → AllAnsweredIf N.opening (S.journal world.new.store) result.answers }
-    ensures read { result.stop ≡ Stop.Done → IfSome (I.left source.new) (λ left. left ≡ []) }
-    ensures whole { result.stop ≢ Stop.SinkFault → O.written sink.new ≡ added (O.written sink.old) (printed_replies result.answers) }
-    ensures part { result.stop ≡ Stop.SinkFault → (n : ℕ) × (O.written sink.new ≡ added (O.written sink.old) (take n (printed_replies result.answers))) }
-    ensures source_fault { result.stop ≡ Stop.SourceFault → Rose (I.faults source.old) (I.faults source.new) }
-    ensures sink_fault { result.stop ≡ Stop.SinkFault → Rose (O.faults sink.old) (O.faults sink.new) }
-    ensures store_fault { result.stop ≡ Stop.StoreFault → Rose (S.faults world.old.store) (S.faults world.new.store) }
+    ensures done { result.status ≡ Status.Done → IfSome (I.left source.old) (λ input. length result.answers ≡ length (lines_of input)) }
+    ensures all { result.status ≡ Status.Done → AllAnsweredIf N.opening (S.journal world.new.store) result.answers }
+    ensures read { result.status ≡ Status.Done → IfSome (I.left source.new) (λ left. left ≡ []) }
+    ensures whole { result.status ≢ Status.SinkFault → O.written sink.new ≡ added (O.written sink.old) (printed_replies result.answers) }
+    ensures part { result.status ≡ Status.SinkFault → (n : ℕ) × (O.written sink.new ≡ added (O.written sink.old) (take n (printed_replies result.answers))) }
+    ensures never_words { result.status ≢ Status.Words }
+    ensures source_fault { result.status ≡ Status.SourceFault → Rose (I.faults source.old) (I.faults source.new) }
+    ensures sink_fault { result.status ≡ Status.SinkFault → Rose (O.faults sink.old) (O.faults sink.new) }
+    ensures store_fault { result.status ≡ Status.StoreFault → Rose (S.faults world.old.store) (S.faults world.new.store) }
 {
     let _applied = world.applied();
     let mut answers = Listed::new(alloc);
     let Ok(mut ahead) = Ahead::new(alloc) else {
-        return stop_with(Stop::NoMemory, answers);
+        return stop_with(Status::NoMemory, answers);
     };
     loop {
         let line = match next_line(alloc, source, &mut ahead) {
             Ok(Some(line)) => line,
-            Ok(None) => return stop_with(Stop::Done, answers),
-            Err(ReadError::NoMemory) => return stop_with(Stop::NoMemory, answers),
-            Err(ReadError::Fault) => return stop_with(Stop::SourceFault, answers),
-            Err(ReadError::TooLong) => return stop_with(Stop::TooLong, answers),
+            Ok(None) => return stop_with(Status::Done, answers),
+            Err(ReadError::NoMemory) => return stop_with(Status::NoMemory, answers),
+            Err(ReadError::Fault) => return stop_with(Status::SourceFault, answers),
+            Err(ReadError::TooLong) => return stop_with(Status::TooLong, answers),
         };
         let number = answers.len() as u64;
         let answered = match answer(alloc, world, number, line) {
             Ok(answered) => answered,
-            Err(_) => return stop_with(Stop::StoreFault, answers),
+            Err(_) => return stop_with(Status::StoreFault, answers),
         };
         let text = match keep(alloc, &mut answers, answered) {
             Ok(text) => text,
-            Err(_) => return stop_with(Stop::NoMemory, answers),
+            Err(_) => return stop_with(Status::NoMemory, answers),
         };
         match write_all(sink, text.as_bytes()) {
             Ok(()) => {}
-            Err(_) => return stop_with(Stop::SinkFault, answers),
+            Err(_) => return stop_with(Status::SinkFault, answers),
         }
     }
 }
@@ -94,9 +97,9 @@ fn keep(
     Ok(text)
 }
 
-fn stop_with(stop: Stop, answers: Listed<Answered>) -> Served
-    ensures stop { result.stop ≡ stop }
+fn stop_with(status: Status, answers: Listed<Answered>) -> Served
+    ensures status { result.status ≡ status }
     ensures answers { result.answers ≡ answers }
 {
-    Served { stop, answers }
+    Served { status, answers }
 }

@@ -1,10 +1,9 @@
 -- The words of a command.
-use Rattle.std.specs.Prelude.{List, [], ◌∷◌, Bool, false, codes, string_bytes}
+use Rattle.std.specs.Prelude.{String, List, [], ◌∷◌, Bool, false, codes, string_bytes}
 use Rattle.std.specs.Str.{bytes_eq}
-use Rattle.std.specs.String.{String}
 
 -- `serve` and a folder
-abbrev pub is_serve : List String → Bool
+abbrev pub is_serve : {A : Type 0} → List (String A) → Bool
 is_serve (command ∷ folder ∷ []) = bytes_eq (string_bytes command) (codes "serve")
 is_serve (command ∷ folder ∷ word ∷ words) = false
 is_serve (command ∷ []) = false

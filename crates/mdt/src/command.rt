@@ -1,4 +1,4 @@
-ghost use Rattle.std.specs.Prelude.{◌≡◌, ◌≢◌, ◌↔◌, ◌<◌, ℕ, length, take, IfSome, false};
+ghost use Rattle.std.specs.Prelude.{◌≡◌, ◌≢◌, ◌↔◌, ◌<◌, [], ℕ, length, take, IfSome, false};
 ghost use Rattle.mx_store.specs.Calls.{Rose};
 ghost use Rattle.mx_store.specs.Journal.{Begins};
 ghost use Rattle.mx_store.specs.Streams.{added};

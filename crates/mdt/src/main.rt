@@ -12,15 +12,16 @@ ghost use Rattle.std.specs.Prelude.{◌<◌};
 
 mod command;
 mod standard;
+#[cfg(test)]
+mod tests;
 
 use crate::command::Ended;
 use mx_base::Instant;
 use mx_hub::Status;
 use mx_store::MemStore;
-use std::env;
-use std::io;
 use std::marker::Brand;
 use std::process::ExitCode;
+use std::{env, io};
 
 // 2025-01-01 at midnight.
 const OPENING_MOMENT: u64 = 20_250_101_000_000_000;

@@ -47,6 +47,9 @@ pub fn command<S: Store, I: Source, O: Sink, N: Named>(
     ensures written { result.status ≢ Status.SinkFault → O.written sink.new ≡ added (O.written sink.old) (printed_replies result.answers) }
     ensures written_part { result.status ≡ Status.SinkFault → (n : ℕ) × (O.written sink.new ≡ added (O.written sink.old) (take n (printed_replies result.answers))) }
     ensures words { result.status ≡ Status.Words ↔ (grammar.is_serve words.now ≡ false) }
+    ensures words_do_nothing { result.status ≡ Status.Words → result.answers ≡ [] }
+    ensures words_change_nothing { result.status ≡ Status.Words → S.journal result.store ≡ N.opening }
+    ensures words_read_nothing { result.status ≡ Status.Words → I.left source.new ≡ I.left source.old }
     ensures source_fault { result.status ≡ Status.SourceFault → Rose (I.faults source.old) (I.faults source.new) }
     ensures sink_fault { result.status ≡ Status.SinkFault → Rose (O.faults sink.old) (O.faults sink.new) }
     ensures store_fault { result.status ≡ Status.StoreFault → Rose N.count (S.faults result.store) }

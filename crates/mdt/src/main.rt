@@ -8,7 +8,8 @@
 //! | `main` | calls `command` over standard input and output; its exit status is that of the command |
 #![tactic(auto)]
 
-ghost use Rattle.std.specs.Prelude.{◌<◌};
+ghost use Rattle.std.specs.Prelude.{◌≡◌, ◌<◌, option_map, string_bytes};
+ghost use Rattle.mdt.specs.Ends.{exit_code, message};
 
 mod command;
 mod standard;
@@ -61,8 +62,10 @@ fn opening_moment() -> Instant
     }
 }
 
-/// The exit status.
-fn code_of(status: Status) -> u8 {
+/// The exit status, a different one for each end.
+fn code_of(status: Status) -> u8
+    ensures { result ≡ exit_code status }
+{
     match status {
         Status::Done => 0,
         Status::NoMemory => 1,
@@ -75,7 +78,9 @@ fn code_of(status: Status) -> u8 {
 }
 
 /// The line on standard error, none where the command was carried out.
-fn message_of(status: Status) -> Option<&'static str> {
+fn message_of(status: Status) -> Option<&'static str>
+    ensures { option_map (λ text. text.now) result ≡ message status }
+{
     match status {
         Status::Done => None,
         Status::NoMemory => Some("no memory"),

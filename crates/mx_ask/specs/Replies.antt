@@ -1,4 +1,4 @@
--- Replies as JSON, each with the number of the line that it answers.
+-- Replies as JSON, each with the number of changes that stood when it was decided.
 use Rattle.std.specs.Prelude.{ℕ, List, map, codes}
 use Rattle.serde_json.specs.Data.{Data, number, string, array, object, no_members, member, unsigned}
 use Rattle.serde_json.specs.View.{items_of}

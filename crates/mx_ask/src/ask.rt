@@ -14,6 +14,6 @@ pub struct FileText {
 pub enum Ask {
     /// Add a file to the table.
     Commit { file: FileText },
-    /// List the latest files of a partition.
+    /// List the files of a partition.
     Files { partition: Partition },
 }

@@ -1,5 +1,5 @@
 -- A command that does nothing.
-use Rattle.std.proofs.Common.{◌≡◌, ◌⊎◌, inl, ℕ, ◌<◌, ◌^◌, true, List, [], length, take, Option, Some, None, refl, sym, ◌∙◌, ap, subst, arith}
+use Rattle.std.proofs.Common.{◌≡◌, inl, ℕ, true, List, [], length, take, Option, Some, None, refl, sym, ◌∙◌, ap, subst, arith}
 use Rattle.std.specs.Prelude.{IfSome, ◌+◌}
 use Rattle.mx_lines.specs.Lines.{lines_of}
 use Rattle.std.specs.FinMap as finmap
@@ -11,7 +11,7 @@ use Rattle.mx_world.specs.State.{KeptIf, IsEmptyFolder}
 use Rattle.mx_world.specs.Answers.{IsValidSince}
 use Rattle.mx_world.proofs.Steps.{begins-told}
 use Rattle.mx_world.proofs.Answering.{valid_since}
-use Rattle.mx_hub.specs.History.{HistoryIf, printed_replies}
+use Rattle.mx_hub.specs.History.{HistoryIf}
 
 module _ (opening journal : Option (List Change)) (same : opening ≡ journal) (empty : IsEmptyFolder journal) where
   kept : KeptIf 1 opening journal 0 0 true finmap.empty

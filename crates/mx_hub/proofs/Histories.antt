@@ -1,5 +1,5 @@
 -- One line more.
-use Rattle.std.proofs.Common.{◌≡◌, ◌⊎◌, inl, inr, ⊎_elim, ℕ, ◌+◌, ◌≤◌, ◌<◌, true, List, [], ◌∷◌, ◌++◌, length, take, Option, Some, None, refl, sym, ◌∙◌, ap, subst, arith, length-append, length-take}
+use Rattle.std.proofs.Common.{◌≡◌, inl, inr, ℕ, ◌+◌, ◌≤◌, true, List, [], ◌∷◌, ◌++◌, length, take, Option, Some, None, refl, sym, ◌∙◌, ap, subst, arith}
 use Rattle.std.specs.Prelude.{IfSome}
 use Rattle.std.proofs.lemmas.List.{take_all, take-append-le, append-nil}
 use Rattle.std.proofs.lemmas.Grind.{flat_map-append}
@@ -8,20 +8,18 @@ use Rattle.mx_store.specs.declared.change.Change.{Change}
 use Rattle.mx_store.specs.Streams.{added}
 use Rattle.mx_store.proofs.Longer.{take-longer, length-longer}
 use Rattle.mx_ask.specs.declared.ask.Ask.{Ask}
-use Rattle.mx_ask.specs.declared.ask.FileText.{FileText}
 use Rattle.mx_ask.specs.declared.reply.Refusal.{Refusal}
 use Rattle.mx_ask.specs.declared.reply.Reply.{Reply}
 use Rattle.mx_lines.specs.declared.line.Line.{Line}
 use Rattle.mx_lines.specs.Lines.{IsLine, LinesGo, lines_of}
-use Rattle.mx_lines.proofs.Pieces.{added-added, added-nothing}
+use Rattle.mx_lines.proofs.Pieces.{added-added}
 use Rattle.mx_world.specs.declared.answered.Answered.{Answered}
 use Rattle.mx_world.specs.Commits.{commit_changes}
-use Rattle.mx_world.specs.State.{KeptIf}
 use Rattle.mx_world.specs.Making.{Standing, Keeps}
-use Rattle.mx_world.specs.Answers.{IsReplyTo, IsBrokenOff, next_instant}
-use Rattle.mx_world.proofs.CommitSteps.{Told, told}
-use Rattle.mx_hub.specs.History.{IsLineReply, RepliesToAsk, IsAnswerOf, AnswersFit, last_seq, IsUnfinished, IsHistory, HistoryIf, AllAnsweredIf, printed, printed_replies}
-use Rattle.mx_hub.specs.Steps.{IsLineAnswered, LineAnsweredIf, IsLineEnded, LineEndsIf, HasFit, FitsIf}
+use Rattle.mx_world.specs.Answers.{IsReplyTo}
+use Rattle.mx_world.proofs.CommitSteps.{told}
+use Rattle.mx_hub.specs.History.{IsLineReply, IsAnswerOf, AnswersFit, last_seq, IsUnfinished, HistoryIf, AllAnsweredIf, printed, printed_replies}
+use Rattle.mx_hub.specs.Steps.{IsLineAnswered, LineAnsweredIf, LineEndsIf, FitsIf}
 
 -- ---- the answers on a longer journal
 
@@ -92,11 +90,12 @@ reply_ends now opening before after (Ask.Commit file) (Reply.Committed at files)
     latest = is.latest;
     is_latest = is.is_latest;
     count = 3;
+    within = omega arith;
     changes = is.changes ∙ ap (λ (t : ℕ). before ++ commit_changes file t is.latest) is.instant;
   },
 )
 reply_ends now opening before after (Ask.Commit file) (Reply.Refused Refusal.InstantsUsedUp) is = inl is.1
-reply_ends now opening before after (Ask.Commit file) (Reply.Refused Refusal.NoMemory) is = inr (file, is)
+reply_ends now opening before after (Ask.Commit file) (Reply.Refused Refusal.NoMemory) is = inr (file, is.0)
 reply_ends now opening before after (Ask.Commit file) (Reply.Refused Refusal.Line) is = absurd is
 reply_ends now opening before after (Ask.Commit file) (Reply.Files at files) is = absurd is
 reply_ends now opening before after (Ask.Files partition) (Reply.Files at files) is = inl is.1

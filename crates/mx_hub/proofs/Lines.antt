@@ -1,9 +1,8 @@
 -- From the answer to an ask to the answer to a line.
-use Rattle.std.proofs.Common.{◌≡◌, ◌⊎◌, inl, inr, ⊎_elim, ℕ, ◌+◌, ◌≤◌, ◌<◌, List, [], ◌∷◌, ◌++◌, length, take, Option, Some, None, refl, sym, ◌∙◌, ap, subst, arith}
+use Rattle.std.proofs.Common.{◌≡◌, ◌⊎◌, inl, inr, ⊎_elim, ℕ, ◌+◌, List, ◌++◌, length, take, Option, Some, None, refl, sym, ◌∙◌, ap, subst, arith}
 use Rattle.std.proofs.lemmas.List.{take_all, take-append-le}
 use Rattle.mx_store.specs.declared.change.Change.{Change}
 use Rattle.mx_ask.specs.declared.ask.Ask.{Ask}
-use Rattle.mx_ask.specs.declared.ask.FileText.{FileText}
 use Rattle.mx_ask.specs.declared.reply.Refusal.{Refusal}
 use Rattle.mx_ask.specs.declared.reply.Reply.{Reply}
 use Rattle.mx_ask.specs.Asks.{IsAsk}
@@ -11,9 +10,9 @@ use Rattle.mx_lines.specs.declared.line.Line.{Line}
 use Rattle.mx_lines.specs.declared.line.Line.TheVariants.{Whole, Long}
 use Rattle.mx_lines.specs.Lines.{IsLine, longest_line}
 use Rattle.mx_world.specs.declared.answered.Answered.{Answered}
-use Rattle.mx_world.specs.Answers.{IsAnswerTo, AnswersIf, EndsEarly, EndsEarlyIf}
-use Rattle.mx_hub.specs.History.{IsNoAsk, IsLineReply, IsUnfinished}
-use Rattle.mx_hub.specs.Steps.{IsLineAnswered, LineAnsweredIf, IsLineEnded, LineEndsIf, IsRefused, RefusedIf}
+use Rattle.mx_world.specs.Answers.{AnswersIf, EndsEarly, EndsEarlyIf}
+use Rattle.mx_hub.specs.History.{IsNoAsk, IsUnfinished}
+use Rattle.mx_hub.specs.Steps.{LineAnsweredIf, LineEndsIf, RefusedIf}
 
 -- a line that is an ask
 pub answered_ask : (now : ℕ) (opening before after : Option (List Change)) (line : List ℕ) (ask : Ask) (number : ℕ) (a : Answered) → IsAsk line ask → a.ask ≡ number → AnswersIf now opening before after ask a → LineAnsweredIf now opening before after (Whole line) number a

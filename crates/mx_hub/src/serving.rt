@@ -53,6 +53,7 @@ pub fn serve<S: Store, I: Source, O: Sink, N: Named>(
     ensures sink_fault { result.status ≡ Status.SinkFault → Rose (O.faults sink.old) (O.faults sink.new) }
     ensures store_fault { result.status ≡ Status.StoreFault → Rose (S.faults world.old.store) (S.faults world.new.store) }
 {
+    // The call tells what the world keeps, which the history rests on.
     let _applied = world.applied();
     let mut answers = Listed::new(alloc);
     let Ok(mut ahead) = Ahead::new(alloc) else {

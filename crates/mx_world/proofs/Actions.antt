@@ -1,8 +1,8 @@
 -- The completed commits of a folder, and what a create does to them.
-use Rattle.std.proofs.Common.{◌≡◌, ◌≢◌, ⊎_elim, ℕ, ◌≤◌, ◌<◌, ◌^◌, Bool, true, false, List, [], ◌∷◌, Option, Some, None, IsSome, refl, sym, ◌∙◌, ap, subst, arith}
+use Rattle.std.proofs.Common.{◌≡◌, ◌≢◌, ⊎_elim, ℕ, List, [], Option, Some, None, IsSome, refl, sym, ◌∙◌, ap, subst}
 use Rattle.std.specs.Prelude.{option_map, option_and_then, unwrap_or}
 use Rattle.std.specs.FinMap as finmap
-use Rattle.mx_base.specs.Paths.{commit_instant, commit_path, files_log_path}
+use Rattle.mx_base.specs.Paths.{commit_instant, files_log_path}
 use Rattle.mx_store.specs.Objects.{Objects, at_path}
 use Rattle.mx_store.proofs.Paths.{at_other, at_same, cases_path}
 use Rattle.mx_meta.specs.AddedText.{added_of}

@@ -1,27 +1,25 @@
 -- From what a commit and a look-up do to the answer that they give.
-use Rattle.std.proofs.Common.{◌≡◌, ◌⊎◌, inl, inr, ⊎_elim, ℕ, ◌+◌, ◌≤◌, ◌<◌, ◌^◌, Bool, true, false, List, [], ◌∷◌, ◌++◌, length, take, drop, Option, Some, None, refl, sym, ◌∙◌, ap, subst, arith, length-append}
-use Rattle.std.specs.Prelude.{option_map, Result, Ok, Err, IfSome}
+use Rattle.std.proofs.Common.{◌≡◌, ℕ, ◌+◌, Bool, true, List, [], ◌++◌, length, take, Option, Some, None, refl, sym, ◌∙◌, ap, subst, arith}
+use Rattle.std.specs.Prelude.{Result, Ok, Err, IfSome}
 use Rattle.std.specs.FinMap as finmap
 use Rattle.std.proofs.lemmas.List.{take-append-le, take_all, append-nil}
-use Rattle.mx_base.specs.Paths.{data_path, group_name}
+use Rattle.mx_base.specs.Paths.{group_name}
 use Rattle.mx_store.specs.declared.change.Change.{Change}
 use Rattle.mx_store.specs.declared.store.StoreError.{StoreError}
 use Rattle.mx_store.specs.declared.store.StoreError.TheVariants.{Failed, NoMemory}
 use Rattle.mx_store.specs.Journal.{Begins}
-use Rattle.mx_store.specs.Objects.{Objects, objects_of, EachSince}
+use Rattle.mx_store.specs.Objects.{objects_of}
 use Rattle.mx_ask.specs.declared.ask.Ask.{Ask}
 use Rattle.mx_ask.specs.declared.ask.FileText.{FileText}
 use Rattle.mx_ask.specs.declared.reply.Refusal.{Refusal}
 use Rattle.mx_ask.specs.declared.reply.Reply.{Reply}
-use Rattle.mx_ask.specs.declared.reply.FileSize.{FileSize}
 use Rattle.mx_model.specs.Maps.{NumberMap}
 use Rattle.mx_world.specs.declared.answered.Answered.{Answered}
-use Rattle.mx_world.specs.Table.{EachIsLogged, IsValidTable}
-use Rattle.mx_world.specs.Commits.{IsLatest, instant_or_none, commit_changes, last_instant}
-use Rattle.mx_world.specs.State.{IsKept, IsSettled, KeptIf}
-use Rattle.mx_world.specs.Making.{Standing, Keeps, with_changes, MakesFront, Commits, Replies, given_reply}
+use Rattle.mx_world.specs.Commits.{instant_or_none, commit_changes}
+use Rattle.mx_world.specs.State.{IsSettled, KeptIf}
+use Rattle.mx_world.specs.Making.{Standing, Keeps, with_changes, Commits, Replies, given_reply}
 use Rattle.mx_world.specs.Look.{files_reply}
-use Rattle.mx_world.specs.Answers.{next_instant, IsCommitted, IsBrokenOff, EndsEarly, IsReplyTo, IsAnswerTo, AnswersIf, EndsEarlyIf, IsValidSince}
+use Rattle.mx_world.specs.Answers.{next_instant, EndsEarly, IsReplyTo, IsAnswerTo, AnswersIf, EndsEarlyIf, IsValidSince}
 use Rattle.mx_world.proofs.CommitSteps.{Told, told}
 use Rattle.mx_world.proofs.Looks.{valid}
 
@@ -138,22 +136,27 @@ module _ (now : ℕ) (opening : Option (List Change)) (before after : Standing) 
       → AnswersIf now opening before.journal after.journal (Ask.Commit file) (record { ask = number; begun = before.applied; seq = after.applied; reply = Reply.Refused Refusal.NoMemory })
   unfolding b t
   commit_broken number h =
-      answers_are now opening before after keeps sure kept h.1.settled (Ask.Commit file) number (Reply.Refused Refusal.NoMemory) (take h.0 (commit_changes file (before.last + 1) (latest_of before file))) h.1.journal
-      (λ grown. record {
-        latest = latest_of before file;
-        is_latest = (t.kept.sure sure).groups (group_name file.partition file.file);
-        count = h.0;
-        changes = grown ∙ ap (λ (n : ℕ). t.journal ++ take h.0 (commit_changes file n (latest_of before file))) last_known;
-      })
+      answers_are now opening before after keeps sure kept h.2.settled (Ask.Commit file) number (Reply.Refused Refusal.NoMemory) (take h.0 (commit_changes file (before.last + 1) (latest_of before file))) h.2.journal
+      (λ grown. (
+        record {
+          latest = latest_of before file;
+          is_latest = (t.kept.sure sure).groups (group_name file.partition file.file);
+          count = h.0;
+          within = omega (arith, h.1);
+          changes = grown ∙ ap (λ (n : ℕ). t.journal ++ take h.0 (commit_changes file n (latest_of before file))) last_known;
+        },
+        h.1,
+      ))
 
   pub commit_failed : Commits file (latest_of before file) before after (Err Failed) → EndsEarlyIf now opening before.journal after.journal (Ask.Commit file)
   commit_failed h =
       let u = told now opening after kept in
-      let grown = behind before.journal t.journal u.journal (take h.1.0 (commit_changes file (before.last + 1) (latest_of before file))) t.journal_is (sym u.journal_is ∙ h.1.1) in
+      let grown = behind before.journal t.journal u.journal (take h.1.0 (commit_changes file (before.last + 1) (latest_of before file))) t.journal_is (sym u.journal_is ∙ h.1.2) in
       early_told now opening before.journal after.journal t.first t.journal u.journal (Ask.Commit file) t.opening_is t.journal_is u.journal_is (record {
         latest = latest_of before file;
         is_latest = (t.kept.sure sure).groups (group_name file.partition file.file);
         count = h.1.0;
+        within = h.1.1;
         changes = grown ∙ ap (λ (n : ℕ). t.journal ++ take h.1.0 (commit_changes file n (latest_of before file))) last_known;
       })
 
@@ -190,7 +193,7 @@ module _ (now : ℕ) (opening : Option (List Change)) (before after : Standing) 
 module _ (now : ℕ) (opening : Option (List Change)) (before after : Standing) (keeps : Keeps now opening before) (sure : before.settled ≡ true) (kept : Keeps now opening after) where
   pub act_sure : (ask : Ask) (replied : Result Reply StoreError) (reply : Reply) → Replies ask before after replied → given_reply replied ≡ Some reply → after.settled ≡ true
   act_sure (Ask.Commit file) (Ok r) reply h is = commit_sure file (latest_of before file) before after r sure h
-  act_sure (Ask.Commit file) (Err NoMemory) reply h is = h.1.settled
+  act_sure (Ask.Commit file) (Err NoMemory) reply h is = h.2.settled
   act_sure (Ask.Commit file) (Err Failed) reply h is = absurd (cc is)
   act_sure (Ask.Files partition) replied reply h is = ap (λ (s : Standing). s.settled) h.0 ∙ sure
 

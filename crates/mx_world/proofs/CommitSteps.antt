@@ -1,8 +1,7 @@
 -- The three creates of a commit, one after the other.
-use Rattle.std.proofs.Common.{◌≡◌, ◌≢◌, ◌⊎◌, inl, inr, ⊎_elim, ℕ, ◌+◌, ◌≤◌, ◌<◌, ◌^◌, Bool, true, false, List, [], ◌∷◌, ◌++◌, length, take, get_or, Option, Some, None, IsSome, refl, sym, ◌∙◌, ap, subst, arith}
+use Rattle.std.proofs.Common.{◌≡◌, ◌≢◌, ℕ, ◌+◌, ◌≤◌, ◌<◌, ◌^◌, Bool, true, false, List, [], ◌∷◌, ◌++◌, get_or, Option, Some, None, IsSome, refl, sym, ◌∙◌, ap, subst, arith}
 use Rattle.std.specs.Prelude.{nat_eq, codes, option_map, ◌||◌, ◌&&◌}
 use Rattle.std.specs.List.{starts_with}
-use Rattle.std.specs.Str.{bytes_eq}
 use Rattle.std.proofs.lemmas.Bool.{false_from_ne_true}
 use Rattle.std.proofs.lemmas.Bool.Decides.{nat_tests}
 use Rattle.std.specs.FinMap as finmap
@@ -19,16 +18,14 @@ use Rattle.mx_store.proofs.Paths.{created_other}
 use Rattle.mx_meta.specs.CommitText.{commit_meta_of}
 use Rattle.mx_meta.specs.AddedText.{added_of}
 use Rattle.mx_meta.specs.declared.commit_meta.CommitMeta.{CommitMeta}
-use Rattle.mx_meta.specs.declared.added.AddedFile.{AddedFile}
 use Rattle.mx_ask.specs.declared.ask.FileText.{FileText}
 use Rattle.mx_model.specs.declared.action.Action.{Action}
-use Rattle.mx_model.specs.Timeline.{action_of, action_at}
-use Rattle.mx_model.specs.Listing.{files_of}
+use Rattle.mx_model.specs.Timeline.{action_at}
 use Rattle.mx_model.specs.Maps.{NumberMap}
 use Rattle.mx_world.specs.Table.{words_at}
-use Rattle.mx_world.specs.Commits.{names_group, added_by_commit, meta_of_commit}
-use Rattle.mx_world.specs.State.{IsKept, IsSettled, KeptIf}
-use Rattle.mx_world.specs.Making.{Standing, Keeps, with_made, with_latest}
+use Rattle.mx_world.specs.Commits.{added_by_commit, meta_of_commit}
+use Rattle.mx_world.specs.State.{IsKept, KeptIf}
+use Rattle.mx_world.specs.Making.{Standing, Keeps}
 use Rattle.mx_world.proofs.Actions.{action_at-other, words_at-made}
 use Rattle.mx_world.proofs.Groups.{action-named}
 use Rattle.mx_world.proofs.Steps.{absent-above, keeps-data, keeps-log, keeps-commit}

@@ -1,6 +1,6 @@
 -- A commit as a whole: what its creates owe, and what its ends are.
-use Rattle.std.proofs.Common.{◌≡◌, ◌≢◌, ◌⊎◌, inl, inr, ⊎_elim, ℕ, ◌+◌, ◌≤◌, ◌<◌, ◌^◌, Bool, true, false, List, [], ◌∷◌, ◌++◌, length, take, Option, Some, None, refl, sym, ◌∙◌, ap, subst, arith, append_assoc}
-use Rattle.std.specs.Prelude.{option_map, Result, Ok, Err}
+use Rattle.std.proofs.Common.{◌≡◌, ⊎_elim, ℕ, ◌+◌, ◌<◌, ◌^◌, Bool, true, List, [], ◌∷◌, ◌++◌, take, Option, Some, None, refl, sym, ◌∙◌, ap, subst, arith, append_assoc}
+use Rattle.std.specs.Prelude.{Err}
 use Rattle.std.proofs.lemmas.List.{append-nil}
 use Rattle.std.specs.FinMap as finmap
 use Rattle.serde_json.specs.Written.{compact_text}
@@ -14,7 +14,6 @@ use Rattle.mx_store.specs.Calls.{with_change, IsAbsent}
 use Rattle.mx_meta.specs.CommitText.{commit_meta_data, commit_meta_of}
 use Rattle.mx_meta.specs.AddedText.{added_data, added_of}
 use Rattle.mx_ask.specs.declared.ask.FileText.{FileText}
-use Rattle.mx_ask.specs.declared.reply.Reply.{Reply}
 use Rattle.mx_model.specs.Maps.{NumberMap}
 use Rattle.mx_world.specs.Commits.{added_by_commit, meta_of_commit, commit_changes}
 use Rattle.mx_world.specs.State.{IsKept, KeptIf}
@@ -91,18 +90,18 @@ with_more None cs c = refl
 with_more (Some js) cs c = ap (λ (x : List Change). Some x) (append_assoc js cs (c ∷ []))
 
 -- an end at which so many changes had been made, and this was the next one
-pub ends_early : (file : FileText) (latest : Option ℕ) (at : ℕ) (newer : NumberMap) (count : ℕ) (c : Change) (before during after : Standing) (e : StoreError)
+pub ends_early : (file : FileText) (latest : Option ℕ) (at : ℕ) (newer : NumberMap) (count : ℕ) (c : Change) (before during after : Standing) (e : StoreError) → count < 3
     → during.journal ≡ with_changes before.journal (take count (commit_changes file (before.last + 1) latest))
     → with_change during.journal c ≡ with_changes before.journal (take (count + 1) (commit_changes file (before.last + 1) latest))
     → during.applied ≡ before.applied + count → during.settled ≡ true
     → Makes c at newer during after (Err e) → Commits file latest before after (Err e)
-ends_early file latest at newer count c before during after NoMemory so_far next applied sure same =
-    (count, record { journal = ap (λ (s : Standing). s.journal) same ∙ so_far; applied = ap (λ (s : Standing). s.applied) same ∙ applied; settled = ap (λ (s : Standing). s.settled) same ∙ sure })
-ends_early file latest at newer count c before during after Failed so_far next applied sure failed = (
+ends_early file latest at newer count c before during after NoMemory few so_far next applied sure same =
+    (count, few, record { journal = ap (λ (s : Standing). s.journal) same ∙ so_far; applied = ap (λ (s : Standing). s.applied) same ∙ applied; settled = ap (λ (s : Standing). s.settled) same ∙ sure })
+ends_early file latest at newer count c before during after Failed few so_far next applied sure failed = (
   failed.0,
   ⊎_elim
-      (λ (same : after.journal ≡ during.journal). (count, same ∙ so_far))
-      (λ (one : after.journal ≡ with_change during.journal c). (count + 1, one ∙ next))
+      (λ (same : after.journal ≡ during.journal). (count, omega (arith, few), same ∙ so_far))
+      (λ (one : after.journal ≡ with_change during.journal c). (count + 1, omega (arith, few), one ∙ next))
       failed.1,
 )
 
@@ -190,7 +189,7 @@ module _ (now : ℕ) (opening : Option (List Change)) (s : Standing) (keeps : Ke
     -- the data file's create failed
     pub data_fails : (during after : Standing) (p bytes : List ℕ) (e : StoreError) → during ≡ with_latest latest s → p ≡ data_path file.partition file.file at → bytes ≡ file.text
         → Makes (Create p bytes) at latest during after (Err e) → Commits file before s after (Err e)
-    data_fails during after p bytes e is path text makes = ends_early file before at latest 0 (Create p bytes) s during after e
+    data_fails during after p bytes e is path text makes = ends_early file before at latest 0 (Create p bytes) s during after e (omega arith)
         (ap (λ (d : Standing). d.journal) is ∙ with_none s.journal)
         (ap (λ (d : Standing). with_change d.journal (Create p bytes)) is
         ∙ ap (λ (q : List ℕ). with_change s.journal (Create q bytes)) path ∙ ap (λ (b : List ℕ). with_change s.journal (Create (data_path file.partition file.file at) b)) text
@@ -209,7 +208,7 @@ module _ (now : ℕ) (opening : Option (List Change)) (s : Standing) (keeps : Ke
     -- the log's create failed
     pub log_fails : (during after : Standing) (p bytes : List ℕ) (e : StoreError) → during ≡ one_made bytes at → p ≡ files_log_path at → bytes ≡ file.text
         → Makes (Create p more) at latest during after (Err e) → Commits file before s after (Err e)
-    log_fails during after p bytes e is path text makes = ends_early file before at latest 1 (Create p more) s during after e
+    log_fails during after p bytes e is path text makes = ends_early file before at latest 1 (Create p more) s during after e (omega arith)
         (after_one bytes during is text ∙ ap (λ (cs : List Change). with_changes s.journal (take 1 cs)) next_changes)
         (ap (λ (q : List ℕ). with_change during.journal (Create q more)) path ∙ ap (λ (j : Option (List Change)). with_change j (Create (files_log_path at) more)) (after_one bytes during is text)
         ∙ two ∙ ap (λ (cs : List Change). with_changes s.journal (take 2 cs)) next_changes)
@@ -220,7 +219,7 @@ module _ (now : ℕ) (opening : Option (List Change)) (s : Standing) (keeps : Ke
     -- the create of the commit's object failed
     pub commit_fails : (during after : Standing) (p group bytes : List ℕ) (e : StoreError) → during ≡ two_made bytes more at → p ≡ commit_path at → bytes ≡ file.text
         → Makes (Create p meta) at (finmap.insert latest group at) during after (Err e) → Commits file before s after (Err e)
-    commit_fails during after p group bytes e is path text makes = ends_early file before at (finmap.insert latest group at) 2 (Create p meta) s during after e
+    commit_fails during after p group bytes e is path text makes = ends_early file before at (finmap.insert latest group at) 2 (Create p meta) s during after e (omega arith)
         (after_two bytes during is text ∙ ap (λ (cs : List Change). with_changes s.journal (take 2 cs)) next_changes)
         (ap (λ (q : List ℕ). with_change during.journal (Create q meta)) path ∙ ap (λ (j : Option (List Change)). with_change j (Create (commit_path at) meta)) (after_two bytes during is text)
         ∙ three ∙ ap (λ (cs : List Change). with_changes s.journal (take 3 cs)) next_changes)

@@ -1,6 +1,6 @@
 -- What a look-up reads is what the maps say.
-use Rattle.std.proofs.Common.{◌≡◌, ℕ, ◌+◌, ◌≤◌, ◌<◌, ◌^◌, Bool, true, false, cond, List, [], ◌∷◌, ◌++◌, Option, Some, None, IsSome, refl, sym, ◌∙◌, ap, subst, arith, rules, length, take, length-take}
-use Rattle.std.specs.Prelude.{All, codes, nat_eq, max, option_to_list, option_and_then, IfSome, map, unwrap_or, nat_le}
+use Rattle.std.proofs.Common.{◌≡◌, ℕ, ◌≤◌, Bool, true, false, cond, List, [], ◌∷◌, ◌++◌, Option, Some, None, IsSome, refl, sym, ◌∙◌, ap, subst, arith, rules, length, take, length-take}
+use Rattle.std.specs.Prelude.{All, codes, nat_eq, max, option_to_list, option_and_then, IfSome, map, nat_le}
 use Rattle.std.specs.List.{filter, filter_map, flat_map, fold, starts_with, cons_option}
 use Rattle.std.specs.FinMap as finmap
 use Rattle.std.proofs.lemmas.List.Elements.{All-head, All-tail, All-cons, All-filter}
@@ -13,16 +13,14 @@ use Rattle.mx_store.specs.declared.change.Change.{Change}
 use Rattle.mx_store.specs.Objects.{Objects, at_path, objects_of, paths_with}
 use Rattle.mx_store.proofs.Keys.{keys_stand}
 use Rattle.mx_store.proofs.Longer.{EachSince-now}
-use Rattle.mx_meta.specs.declared.added.AddedFile.{AddedFile}
-use Rattle.mx_ask.specs.declared.reply.Reply.{Reply}
 use Rattle.mx_ask.specs.declared.reply.Reply.TheVariants.{Files}
 use Rattle.mx_model.specs.declared.action.Action.{Action}
 use Rattle.mx_model.specs.Timeline.{action_of, action_at, completed_actions, actions_upto, newest}
 use Rattle.mx_model.specs.Listing.{files_of, listed_files}
-use Rattle.mx_model.specs.Maps.{NumberMap, sizes_in, files_map, maps_at, maps_of, with_file_in}
-use Rattle.mx_model.specs.Answer.{file_sizes, files_answer}
+use Rattle.mx_model.specs.Maps.{NumberMap, sizes_in, files_map, maps_at, maps_of}
+use Rattle.mx_model.specs.Answer.{file_sizes}
 use Rattle.mx_model.proofs.MapLemmas.{sizes_in-files_map, actions_upto-newest}
-use Rattle.mx_world.specs.Table.{words_at, EachIsLogged, logged_files, IsValidTable}
+use Rattle.mx_world.specs.Table.{words_at, EachIsLogged, IsValidTable}
 use Rattle.mx_ask.specs.declared.reply.FileSize.{FileSize}
 use Rattle.mx_world.specs.State.{IsKept, KeptIf}
 use Rattle.mx_world.specs.Making.{Standing, Keeps}

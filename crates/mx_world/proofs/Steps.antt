@@ -1,9 +1,9 @@
 -- What each of a commit's three creates keeps.
-use Rattle.std.proofs.Common.{◌≡◌, ◌≢◌, ◌⊎◌, inl, inr, ⊎_elim, ℕ, ◌+◌, ◌-◌, ◌≤◌, ◌<◌, ◌^◌, Bool, true, false, cond, IsTrue, List, [], ◌∷◌, ◌++◌, length, take, drop, Option, Some, None, IsSome, refl, sym, ◌∙◌, ap, subst, arith, length-append}
+use Rattle.std.proofs.Common.{◌≡◌, ◌≢◌, ◌⊎◌, inl, inr, ⊎_elim, ℕ, ◌+◌, ◌-◌, ◌≤◌, ◌<◌, ◌^◌, Bool, true, false, cond, List, [], ◌∷◌, ◌++◌, length, drop, Option, Some, None, IsSome, refl, sym, ◌∙◌, ap, subst, arith, length-append}
 use Rattle.std.proofs.Math.Nat.{eq-or-lt_of_le}
 use Rattle.std.proofs.lemmas.Bool.Decides.{nat_tests}
 use Rattle.std.specs.Prelude.{◌==◌, not, codes, nat_eq}
-use Rattle.std.specs.List.{count_by, starts_with}
+use Rattle.std.specs.List.{starts_with}
 use Rattle.std.specs.Str.{bytes_eq}
 use Rattle.std.specs.FinMap as finmap
 use Rattle.std.specs.Cmp.Lexicographic.{slice_cmp, nat_list_cmp_total}
@@ -17,7 +17,7 @@ use Rattle.mx_base.specs.Paths.{commit_instant, commit_path, files_log_path, nam
 use Rattle.mx_base.proofs.PathLemmas.{IsCommitAt-commit_instant, commit_instant-files_log_path, commit_instant-commit_path, name_instant-files_log_path, name_instant-commit_path, files_log_path-injective, commit_path≢files_log_path, starts_with-commit_path, starts_with-files_log_path}
 use Rattle.mx_store.specs.declared.change.Change.{Change}
 use Rattle.mx_store.specs.declared.change.Change.TheVariants.{Create}
-use Rattle.mx_store.specs.Objects.{Objects, at_path, objects_of, apply}
+use Rattle.mx_store.specs.Objects.{Objects, at_path, objects_of}
 use Rattle.mx_store.proofs.Journal.{objects_of-push, EachSince-push}
 use Rattle.mx_store.proofs.Longer.{EachSince-now, EachSince-start}
 use Rattle.mx_store.proofs.Paths.{at_other, cases_path, path_other, path_same}

@@ -1,5 +1,5 @@
 -- Which reply an ask gets.
-use Rattle.std.specs.Prelude.{◌≡◌, ℕ, ◌+◌, ◌<◌, ◌^◌, List, [], ◌∷◌, ◌++◌, length, take, drop, Option, Some, None}
+use Rattle.std.specs.Prelude.{◌≡◌, ℕ, ◌+◌, ◌<◌, ◌≤◌, ◌^◌, List, [], ◌∷◌, ◌++◌, length, take, drop, Option, Some, None}
 use Rattle.mx_base.specs.Paths.{data_path, group_name}
 use Rattle.mx_store.specs.declared.change.Change.{Change}
 use Rattle.mx_store.specs.Objects.{objects_of, EachSince}
@@ -30,6 +30,7 @@ pub record IsBrokenOff (now : ℕ) (opening before after : List Change) (file : 
   pub latest : Option ℕ
   pub is_latest : IsLatest (objects_of before) (group_name file.partition file.file) latest
   pub count : ℕ
+  pub within : count ≤ 3
   pub changes : after ≡ before ++ take count (commit_changes file (next_instant now opening before) latest)
 
 -- what an ask has done that ended early
@@ -41,7 +42,7 @@ EndsEarly now opening before after (Ask.Files partition) = after ≡ before
 abbrev pub IsReplyTo : ℕ → List Change → List Change → List Change → Ask → Reply → Type 0
 IsReplyTo now opening before after (Ask.Commit file) (Reply.Committed at files) = IsCommitted now opening before after file at files
 IsReplyTo now opening before after (Ask.Commit file) (Reply.Refused Refusal.InstantsUsedUp) = (next_instant now opening before ≡ 10 ^ 17) × (after ≡ before)
-IsReplyTo now opening before after (Ask.Commit file) (Reply.Refused Refusal.NoMemory) = IsBrokenOff now opening before after file
+IsReplyTo now opening before after (Ask.Commit file) (Reply.Refused Refusal.NoMemory) = (broken : IsBrokenOff now opening before after file) × (broken.count < 3)
 IsReplyTo now opening before after (Ask.Commit file) (Reply.Refused Refusal.Line) = ⊥
 IsReplyTo now opening before after (Ask.Commit file) (Reply.Files at files) = ⊥
 IsReplyTo now opening before after (Ask.Files partition) (Reply.Files at files) = (Reply.Files at files ≡ files_reply partition (objects_of before)) × (after ≡ before)

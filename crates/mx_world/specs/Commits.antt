@@ -1,5 +1,5 @@
 -- What a commit of one file makes.
-use Rattle.std.specs.Prelude.{◌≡◌, ℕ, ◌+◌, ◌-◌, ◌≤◌, List, [], ◌∷◌, ◌++◌, length, if◌then◌else◌, ◌==◌, Bool, true, false, not, codes, nat_eq, Option, Some, None}
+use Rattle.std.specs.Prelude.{◌≡◌, ℕ, ◌+◌, ◌-◌, ◌≤◌, List, [], ◌∷◌, length, if◌then◌else◌, ◌==◌, Bool, true, false, not, codes, nat_eq, Option, Some, None}
 use Rattle.std.specs.List.{list_any, count_by, starts_with}
 use Rattle.std.specs.Str.{bytes_eq}
 use Rattle.mx_base.specs.Paths.{commit_path, files_log_path, data_path, data_file_name, group_name}

@@ -2,7 +2,6 @@
 use Rattle.std.specs.Prelude.{ℕ, List}
 use Rattle.std.specs.List.{flat_map, fold}
 use Rattle.std.specs.Prelude.{max}
-use Rattle.std.specs.FinMap as finmap
 use Rattle.mx_base.specs.Paths.{files_log_path}
 use Rattle.mx_store.specs.Objects.{Objects}
 use Rattle.mx_meta.specs.declared.added.AddedFile.{AddedFile}

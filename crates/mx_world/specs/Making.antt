@@ -1,5 +1,5 @@
 -- How a world stands, and what its changes make of that.
-use Rattle.std.specs.Prelude.{◌≡◌, ◌⊎◌, ℕ, ◌+◌, ◌-◌, ◌≤◌, ◌<◌, ◌^◌, Bool, true, false, List, [], ◌∷◌, ◌++◌, take, Option, Some, None, option_map, Result, Ok, Err, IfOk, IfSome}
+use Rattle.std.specs.Prelude.{◌≡◌, ◌⊎◌, ℕ, ◌+◌, ◌≤◌, ◌<◌, ◌^◌, Bool, true, false, List, [], ◌∷◌, ◌++◌, take, Option, Some, None, option_map, Result, Ok, Err, IfOk, IfSome}
 use Rattle.std.specs.FinMap as finmap
 use Rattle.mx_base.specs.Paths.{data_path, group_name}
 use Rattle.mx_store.specs.Objects.{objects_of}
@@ -60,9 +60,9 @@ Commits file latest before after (Ok (Reply.Refused Refusal.InstantsUsedUp)) = (
 Commits file latest before after (Ok (Reply.Refused Refusal.Line)) = ⊥
 Commits file latest before after (Ok (Reply.Refused Refusal.NoMemory)) = ⊥
 Commits file latest before after (Ok (Reply.Files at files)) = ⊥
-Commits file latest before after (Err NoMemory) = (count : ℕ) × MakesFront (commit_changes file (before.last + 1) latest) count before after
+Commits file latest before after (Err NoMemory) = (count : ℕ) × (count < 3) × MakesFront (commit_changes file (before.last + 1) latest) count before after
 Commits file latest before after (Err Failed) = (after.settled ≡ false)
-    × ((count : ℕ) × (after.journal ≡ with_changes before.journal (take count (commit_changes file (before.last + 1) latest))))
+    × ((count : ℕ) × (count ≤ 3) × (after.journal ≡ with_changes before.journal (take count (commit_changes file (before.last + 1) latest))))
 
 -- what an ask makes of a world
 abbrev pub Replies : Ask → Standing → Standing → Result Reply StoreError → Type 0

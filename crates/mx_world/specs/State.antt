@@ -4,7 +4,7 @@ use Rattle.std.specs.FinMap as finmap
 use Rattle.std.specs.Coded.{Coded, code_by, coded×, coded_ℕ, coded_bool, coded_list}
 use Rattle.mx_base.specs.Paths.{name_instant}
 use Rattle.mx_store.specs.declared.change.Change.{Change}
-use Rattle.mx_store.specs.Objects.{Objects, at_path, objects_of, EachSince}
+use Rattle.mx_store.specs.Objects.{at_path, objects_of, EachSince}
 use Rattle.mx_model.specs.Maps.{NumberMap}
 use Rattle.mx_world.specs.Table.{EachIsLogged}
 use Rattle.mx_world.specs.Commits.{IsLatest, instant_or_none, last_instant}

@@ -25,6 +25,7 @@ impl<S: Store, N: Named> World<S, N> {
         ensures same { standing S.journal self.new ≡ standing S.journal self.old }
         ensures faults { Counts (S.faults self.old.store) (S.faults self.new.store) result }
     {
+        // The call tells what the world keeps, which the answer rests on.
         let _last = self.last();
         let commits = self.commits(alloc)?;
         let sizes = self.sizes_logged(alloc, partition, commits.as_slice())?;

@@ -1,4 +1,4 @@
-use Rattle.std.proofs.Common.{◌≡◌, ◌⊎◌, inl, inr, ◌∙◌, sym, ap, subst, rules, ℕ, List, refl}
+use Rattle.std.proofs.Common.{inl, sym, subst, refl}
 use Rattle.mx_lines.specs.declared.line.Line.{Line}
 use Rattle.mx_lines.specs.declared.line.Line.TheVariants.{Long}
 use Rattle.mx_hub.specs.Steps.{LineAnsweredIf}

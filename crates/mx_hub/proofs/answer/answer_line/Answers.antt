@@ -1,9 +1,7 @@
-use Rattle.std.proofs.Common.{◌≡◌, ◌⊎◌, inl, inr, ◌∙◌, sym, ap, subst, rules, ℕ, List, refl}
-use Rattle.mx_ask.specs.declared.ask.Ask.{Ask}
-use Rattle.mx_ask.specs.Asks.{IsAsk}
+use Rattle.std.proofs.Common.{inl, ◌∙◌, subst, rules, refl}
 use Rattle.mx_lines.specs.declared.line.Line.TheVariants.{Whole}
 use Rattle.mx_hub.specs.History.{IsNoAsk}
-use Rattle.mx_hub.proofs.Lines.{answered_ask, answered_refused, line_ends}
+use Rattle.mx_hub.proofs.Lines.{answered_refused}
 use Rattle.mx_hub.proofs.answer.answer_line.Goals as goal
 
 pub returns-in-Err-NotAnAsk-clause-answered : goal.returns-in-Err-NotAnAsk-clause-answered

@@ -1,8 +1,7 @@
-use Rattle.std.proofs.Common.{◌≡◌, ◌+◌, ◌∷◌, [], ◌++◌, length, sym, ap, subst, ◌∙◌, List, ℕ, take, arith, rules, refl, true}
+use Rattle.std.proofs.Common.{◌≡◌, ◌+◌, ◌∷◌, [], ◌++◌, length, sym, ap, subst, ◌∙◌, List, ℕ, take, refl}
 use Rattle.std.specs.Prelude.{IfSome, Option, Some, None}
 use Rattle.mx_store.specs.declared.change.Change.{Change}
 use Rattle.mx_store.specs.Streams.{added, before}
-use Rattle.mx_lines.specs.Ahead.{all_left}
 use Rattle.mx_lines.specs.Lines.{lines_of, LinesGo}
 use Rattle.mx_lines.proofs.Lines.{line_on, lines_start, lines_done}
 use Rattle.mx_lines.proofs.Pieces.{added-nothing, before-nothing}
@@ -10,7 +9,7 @@ use Rattle.mx_world.specs.declared.answered.Answered.{Answered}
 use Rattle.mx_world.specs.Making.{standing}
 use Rattle.mx_hub.specs.History.{HistoryIf, printed_replies}
 use Rattle.mx_hub.specs.Steps.{FitsIf}
-use Rattle.mx_hub.proofs.Histories.{answered_ends, fits_push, history_ended, history_now, all_answered, fits_nothing, answers_count, written-push, written-part}
+use Rattle.mx_hub.proofs.Histories.{answered_ends, fits_push, history_ended, history_now, fits_nothing, answers_count, written-push, written-part}
 use Rattle.mx_hub.proofs.serving.serve.Goals as goal
 
 -- the answers are those that were kept

@@ -6,12 +6,12 @@ use Rattle.std.specs.declared.alloc.AllocError.{AllocError}
 use Rattle.std.proofs.lemmas.List.Elements.{All-cons}
 use Rattle.std.specs.List.Sorted.{IsStrictlySortedBy}
 use Rattle.serde_json.specs.Written.{compact_text}
-use Rattle.mx_meta.specs.AddedText.{added_data, added_of}
+use Rattle.mx_meta.specs.AddedText.{added_data}
 use Rattle.mx_meta.specs.CommitText.{commit_meta_data, commit_meta_of, IsWellFormed, HasSmallCounts}
 use Rattle.mx_meta.specs.declared.added.AddedFile.{AddedFile}
 use Rattle.mx_meta.specs.declared.commit_meta.CommitMeta.{CommitMeta}
 use Rattle.mx_ask.specs.declared.ask.FileText.{FileText}
-use Rattle.mx_world.specs.Commits.{added_by_commit, meta_of_commit}
+use Rattle.mx_world.specs.Commits.{meta_of_commit}
 use Rattle.mx_world.proofs.plan.plan_commit.Goals as goal
 
 none : {X : Type 0} (P : X → Type 0) → All P []

@@ -1,8 +1,6 @@
-use Rattle.std.proofs.Common.{◌≡◌, ◌∙◌, sym, ap, subst, rules, ℕ, Some, None}
-use Rattle.mx_world.specs.declared.answered.Answered.{Answered}
-use Rattle.mx_world.specs.Answers.{AnswersIf}
-use Rattle.mx_world.specs.Making.{standing, given_reply}
-use Rattle.mx_world.proofs.Answering.{act_answers, act_early, act_sure}
+use Rattle.std.proofs.Common.{rules}
+use Rattle.mx_world.specs.Making.{standing}
+use Rattle.mx_world.proofs.Answering.{act_answers, act_early}
 use Rattle.mx_world.proofs.world.World.act.Goals as goal
 
 pub returns-clause-answers : goal.returns-clause-answers

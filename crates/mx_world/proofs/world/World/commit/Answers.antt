@@ -1,4 +1,4 @@
-use Rattle.std.proofs.Common.{◌≡◌, ◌∙◌, sym, ap, subst, rules, ℕ, ◌+◌, ◌<◌, ◌^◌, List, Option, Some, None, refl, arith}
+use Rattle.std.proofs.Common.{◌≡◌, ◌∙◌, sym, ap, subst, ℕ, ◌+◌, ◌<◌, ◌^◌, Option, Some, None, refl, arith}
 use Rattle.std.specs.Prelude.{Result, Ok, Err, SomeIff, IsErr, IsErrAnd}
 use Rattle.std.specs.FinMap as finmap
 use Rattle.mx_base.specs.Paths.{group_name}
@@ -8,7 +8,7 @@ use Rattle.mx_meta.specs.CommitText.{commit_meta_of}
 use Rattle.mx_store.specs.declared.change.Change.TheVariants.{Create}
 use Rattle.mx_model.specs.Maps.{NumberMap}
 use Rattle.mx_world.specs.Commits.{instant_or_none}
-use Rattle.mx_world.specs.Making.{Standing, Keeps, Makes, Commits, standing, with_latest, with_made}
+use Rattle.mx_world.specs.Making.{Standing, Keeps, Makes, Commits, standing, with_made}
 use Rattle.mx_world.proofs.CommitWhole.{data_call, log_call, commit_call, data_made, log_made, data_fails, log_fails, commit_fails, commit_made}
 use Rattle.mx_world.proofs.world.World.commit.Goals as goal
 

@@ -1,4 +1,4 @@
-use Rattle.std.proofs.Common.{◌≡◌, ◌∙◌, sym, ap, subst, rules, List, ℕ}
+use Rattle.std.proofs.Common.{◌≡◌, ◌∙◌, ap, subst, List, ℕ}
 use Rattle.std.specs.Prelude.{IfSome}
 use Rattle.std.specs.FinMap as finmap
 use Rattle.mx_store.specs.declared.change.Change.{Change}

@@ -1,4 +1,4 @@
-use Rattle.std.proofs.Common.{◌≡◌, ◌∙◌, sym, ap, subst, rules, arith}
+use Rattle.std.proofs.Common.{◌≡◌, ◌∙◌, sym, ap, subst, arith}
 use Rattle.std.specs.Prelude.{ℕ, ◌-◌, true}
 use Rattle.mx_world.specs.State.{KeptIf}
 use Rattle.mx_world.proofs.Steps.{begins-told}

@@ -1,4 +1,4 @@
-use Rattle.std.proofs.Common.{◌≡◌, ◌∙◌, sym, ap, subst, rules, Some, None, ℕ, List, refl}
+use Rattle.std.proofs.Common.{◌≡◌, ◌∙◌, sym, ap, subst, rules, None, ℕ, List, refl}
 use Rattle.std.specs.Prelude.{IsSome, Option}
 use Rattle.std.specs.FinMap as finmap
 use Rattle.mx_model.specs.Maps.{NumberMap}

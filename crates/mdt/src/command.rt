@@ -1,7 +1,8 @@
-ghost use Rattle.std.specs.Prelude.{◌≡◌, ◌≢◌, ◌↔◌, ◌<◌, [], ℕ, length, take, IfSome, false};
+ghost use Rattle.std.specs.Prelude.{◌≡◌, ◌≢◌, ◌↔◌, ◌<◌, ◌^◌, [], ℕ, length, take, IfSome, false};
 ghost use Rattle.mx_store.specs.Calls.{Rose};
 ghost use Rattle.mx_store.specs.Journal.{Begins};
 ghost use Rattle.mx_store.specs.Streams.{added};
+ghost use Rattle.mx_lines.specs.Ahead.{CountsBytes};
 ghost use Rattle.mx_lines.specs.Lines.{lines_of};
 ghost use Rattle.mx_world.specs.State.{IsEmptyFolder};
 ghost use Rattle.mx_world.specs.Answers.{IsValidSince};
@@ -46,6 +47,8 @@ pub fn command<S: Store, I: Source, O: Sink, N: Named>(
     ensures read_to_end { result.status ≡ Status.Done → IfSome (I.left source.new) (λ left. left ≡ []) }
     ensures written { result.status ≢ Status.SinkFault → O.written sink.new ≡ added (O.written sink.old) (printed_replies result.answers) }
     ensures written_part { result.status ≡ Status.SinkFault → (n : ℕ) × (O.written sink.new ≡ added (O.written sink.old) (take n (printed_replies result.answers))) }
+    ensures short { result.status ≡ Status.Done → IfSome (I.left source.old) (λ input. length input < 2 ^ 40) }
+    ensures too_long { result.status ≡ Status.TooLong → CountsBytes 0 (I.left source.old) (2 ^ 40) (I.left source.new) }
     ensures words { result.status ≡ Status.Words ↔ (grammar.is_serve words.now ≡ false) }
     ensures words_do_nothing { result.status ≡ Status.Words → result.answers ≡ [] }
     ensures words_change_nothing { result.status ≡ Status.Words → S.journal result.store ≡ N.opening }

@@ -14,13 +14,28 @@ use std::test::Fail;
 
 const MOMENT: u64 = 20_250_101_000_000_000;
 
-// What the command of these words writes for an input, and how it ends.
-fn written<N: Named, R: Abort + AllocGlobal>(
+// A look-up, a commit and the look-up once more.
+static FIRST_LINES: &[u8] =
+    b"{\"ask\":\"files\",\"partition\":\"2024-01-01\"}\n{\"ask\":\"commit\",\"files\":[{\"file\":\"11111111-1111-4111-8111-111111111111\",\"partition\":\"2024-01-01\",\"text\":\"hello\"}]}\n{\"ask\":\"files\",\"partition\":\"2024-01-01\"}\n";
+
+static FIRST_REPLIES: &[u8] =
+    b"{\"at\":\"00000000000000000\",\"files\":[],\"ok\":\"files\",\"seq\":0}\n{\"files\":[\"2024-01-01/11111111-1111-4111-8111-111111111111_0-0-0_20250101000000000.parquet\"],\"instant\":\"20250101000000000\",\"ok\":\"commit\",\"seq\":3}\n{\"at\":\"20250101000000000\",\"files\":[{\"name\":\"11111111-1111-4111-8111-111111111111_0-0-0_20250101000000000.parquet\",\"size\":5}],\"ok\":\"files\",\"seq\":3}\n";
+
+// What a run leaves.
+#[derive(Drop)]
+struct Left {
+    status: Status,
+    written: Vec<u8>,
+    changes: usize,
+}
+
+fn run<N: Named, R: Abort + AllocGlobal>(
     rt: &R,
     store: MemStore,
     words: &[&str],
-    input: &[u8],
-) -> Result<(Status, Vec<u8>), Fail>
+    mut source: BytesSource,
+    mut sink: BytesSink,
+) -> Result<Left, Fail>
     requires opening { N.opening ≡ Some store.changes }
     requires empty { store.changes ≡ [] }
     requires count { N.count ≡ store.faults }
@@ -31,19 +46,13 @@ fn written<N: Named, R: Abort + AllocGlobal>(
     for word in words {
         owned.push(String::from_str(alloc, *word)?)?;
     }
-    let mut source = BytesSource::over(
-        Vec::from_slice(alloc, input)?,
-        Vec::new(alloc),
-        Vec::new(alloc),
-    );
-    let mut sink = BytesSink::empty(alloc, Vec::new(alloc));
     let now = match Instant::new(MOMENT) {
         Some(at) => at,
         None => unreachable!(),
     };
     let Ended {
         status,
-        store: _,
+        store,
         answers: _,
     } = command::<MemStore, BytesSource, BytesSink, N>(
         alloc,
@@ -53,39 +62,183 @@ fn written<N: Named, R: Abort + AllocGlobal>(
         &mut source,
         &mut sink,
     );
-    Ok((status, Vec::from_slice(alloc, sink.bytes())?))
+    Ok(Left {
+        status,
+        written: Vec::from_slice(alloc, sink.bytes())?,
+        changes: store.journal().len(),
+    })
+}
+
+// The input, cut at these places, of which these calls fail.
+fn input<R: Abort + AllocGlobal>(
+    rt: &R,
+    bytes: &[u8],
+    cuts: &[usize],
+    fails: &[u64],
+) -> Result<BytesSource, Fail> {
+    let alloc = rt.alloc();
+    Ok(BytesSource::over(
+        Vec::from_slice(alloc, bytes)?,
+        Vec::from_slice(alloc, cuts)?,
+        Vec::from_slice(alloc, fails)?,
+    ))
+}
+
+fn output<R: Abort + AllocGlobal>(rt: &R, fails: &[u64]) -> Result<BytesSink, Fail> {
+    let alloc = rt.alloc();
+    Ok(BytesSink::empty(alloc, Vec::from_slice(alloc, fails)?))
+}
+
+// So many of the first replies.
+fn first_replies(count: usize) -> &'static [u8] {
+    let mut lines = 0usize;
+    for at in 0..FIRST_REPLIES.len() {
+        if lines == count {
+            return &FIRST_REPLIES[..at];
+        }
+        if FIRST_REPLIES[at] == b'\n' {
+            lines = lines.saturating_add(1);
+        }
+    }
+    FIRST_REPLIES
 }
 
 #[test]
 fn a_file_is_shown_once_its_commit_is_complete(rt: HostRuntime) -> Result<(), Fail> {
-    let input =
-        b"{\"ask\":\"files\",\"partition\":\"2024-01-01\"}\n{\"ask\":\"commit\",\"files\":[{\"file\":\"11111111-1111-4111-8111-111111111111\",\"partition\":\"2024-01-01\",\"text\":\"hello\"}]}\n{\"ask\":\"files\",\"partition\":\"2024-01-01\"}\n";
-    let replies =
-        b"{\"at\":\"00000000000000000\",\"files\":[],\"ok\":\"files\",\"seq\":0}\n{\"files\":[\"2024-01-01/11111111-1111-4111-8111-111111111111_0-0-0_20250101000000000.parquet\"],\"instant\":\"20250101000000000\",\"ok\":\"commit\",\"seq\":3}\n{\"at\":\"20250101000000000\",\"files\":[{\"name\":\"11111111-1111-4111-8111-111111111111_0-0-0_20250101000000000.parquet\",\"size\":5}],\"ok\":\"files\",\"seq\":3}\n";
-    let (status, bytes) = written::<Brand, _>(
+    let left = run::<Brand, _>(
         &rt,
         MemStore::empty(rt.alloc()),
         &["serve", "work"],
-        input,
+        input(&rt, FIRST_LINES, &[], &[])?,
+        output(&rt, &[])?,
     )?;
-    assert_eq!(rt; status, Status::Done);
-    assert_eq!(rt; bytes.as_slice(), replies.as_slice());
+    assert_eq!(rt; left.status, Status::Done);
+    assert_eq!(rt; left.written.as_slice(), FIRST_REPLIES);
+    Ok(())
+}
+
+#[test]
+fn a_source_that_is_cut_anywhere_gives_the_same_replies(rt: HostRuntime) -> Result<(), Fail> {
+    for cut in 0..FIRST_LINES.len() {
+        let left = run::<Brand, _>(
+            &rt,
+            MemStore::empty(rt.alloc()),
+            &["serve", "work"],
+            input(&rt, FIRST_LINES, &[cut], &[])?,
+            output(&rt, &[])?,
+        )?;
+        assert_eq!(rt; left.status, Status::Done, "cut at {cut}");
+        assert_eq!(rt; left.written.as_slice(), FIRST_REPLIES, "cut at {cut}");
+    }
+    Ok(())
+}
+
+#[test]
+fn a_source_that_fails_ends_the_run_behind_the_lines_before(rt: HostRuntime) -> Result<(), Fail> {
+    // The first call gives all bytes, and the second finds the end.
+    let cases: [(u64, Status, usize, usize); 3] = [
+        (0, Status::SourceFault, 0, 0),
+        (1, Status::SourceFault, 3, 3),
+        (2, Status::Done, 3, 3),
+    ];
+    for (call, status, replies, changes) in cases {
+        let left = run::<Brand, _>(
+            &rt,
+            MemStore::empty(rt.alloc()),
+            &["serve", "work"],
+            input(&rt, FIRST_LINES, &[], &[call])?,
+            output(&rt, &[])?,
+        )?;
+        assert_eq!(rt; left.status, status, "call {call}");
+        assert_eq!(rt;
+            left.written.as_slice(),
+            first_replies(replies),
+            "call {call}"
+        );
+        assert_eq!(rt; left.changes, changes, "call {call}");
+    }
+    Ok(())
+}
+
+#[test]
+fn a_sink_that_fails_ends_the_run_at_that_reply(rt: HostRuntime) -> Result<(), Fail> {
+    let cases: [(u64, Status, usize, usize); 4] = [
+        (0, Status::SinkFault, 0, 0),
+        (1, Status::SinkFault, 1, 3),
+        (2, Status::SinkFault, 2, 3),
+        (3, Status::Done, 3, 3),
+    ];
+    for (call, status, replies, changes) in cases {
+        let left = run::<Brand, _>(
+            &rt,
+            MemStore::empty(rt.alloc()),
+            &["serve", "work"],
+            input(&rt, FIRST_LINES, &[], &[])?,
+            output(&rt, &[call])?,
+        )?;
+        assert_eq!(rt; left.status, status, "call {call}");
+        assert_eq!(rt;
+            left.written.as_slice(),
+            first_replies(replies),
+            "call {call}"
+        );
+        assert_eq!(rt; left.changes, changes, "call {call}");
+    }
+    Ok(())
+}
+
+#[test]
+fn a_store_that_fails_ends_the_run_without_a_reply_to_that_line(
+    rt: HostRuntime,
+) -> Result<(), Fail> {
+    // The calls: list; create, create, create; list, get.
+    let cases: [(u64, bool, Status, usize, usize); 10] = [
+        (0, false, Status::StoreFault, 0, 0),
+        (1, false, Status::StoreFault, 1, 0),
+        (1, true, Status::StoreFault, 1, 1),
+        (2, false, Status::StoreFault, 1, 1),
+        (2, true, Status::StoreFault, 1, 2),
+        (3, false, Status::StoreFault, 1, 2),
+        (3, true, Status::StoreFault, 1, 3),
+        (4, false, Status::StoreFault, 2, 3),
+        (5, false, Status::StoreFault, 2, 3),
+        (6, false, Status::Done, 3, 3),
+    ];
+    for (call, applied, status, replies, changes) in cases {
+        let mut store = MemStore::empty(rt.alloc());
+        store.fail(call, applied)?;
+        let left = run::<Brand, _>(
+            &rt,
+            store,
+            &["serve", "work"],
+            input(&rt, FIRST_LINES, &[], &[])?,
+            output(&rt, &[])?,
+        )?;
+        assert_eq!(rt; left.status, status, "call {call}, {applied}");
+        assert_eq!(rt;
+            left.written.as_slice(),
+            first_replies(replies),
+            "call {call}, {applied}"
+        );
+        assert_eq!(rt; left.changes, changes, "call {call}, {applied}");
+    }
     Ok(())
 }
 
 #[test]
 fn a_line_that_is_no_ask_is_refused_and_the_next_is_served(rt: HostRuntime) -> Result<(), Fail> {
-    let input = b"nonsense\n\n\xff\xfe\n{\"ask\":\"files\",\"partition\":\"P\"}";
+    let lines = b"nonsense\n\n\xff\xfe\n{\"ask\":\"files\",\"partition\":\"P\"}";
     let replies =
         b"{\"refused\":\"line\",\"seq\":0}\n{\"refused\":\"line\",\"seq\":0}\n{\"refused\":\"line\",\"seq\":0}\n{\"at\":\"00000000000000000\",\"files\":[],\"ok\":\"files\",\"seq\":0}\n";
-    let (status, bytes) = written::<Brand, _>(
+    let left = run::<Brand, _>(
         &rt,
         MemStore::empty(rt.alloc()),
         &["serve", "work"],
-        input,
+        input(&rt, lines, &[], &[])?,
+        output(&rt, &[])?,
     )?;
-    assert_eq!(rt; status, Status::Done);
-    assert_eq!(rt; bytes.as_slice(), replies.as_slice());
+    assert_eq!(rt; left.status, Status::Done);
+    assert_eq!(rt; left.written.as_slice(), replies.as_slice());
     Ok(())
 }
 
@@ -99,14 +252,16 @@ fn other_words_than_serve_and_a_folder_do_nothing(rt: HostRuntime) -> Result<(),
         &["Serve", "x"],
     ];
     for words in cases {
-        let (status, bytes) = written::<Brand, _>(
+        let left = run::<Brand, _>(
             &rt,
             MemStore::empty(rt.alloc()),
             words,
-            b"nonsense\n",
+            input(&rt, FIRST_LINES, &[], &[])?,
+            output(&rt, &[])?,
         )?;
-        assert_eq!(rt; status, Status::Words);
-        assert_eq!(rt; bytes.len(), 0);
+        assert_eq!(rt; left.status, Status::Words);
+        assert_eq!(rt; left.written.len(), 0);
+        assert_eq!(rt; left.changes, 0);
     }
     Ok(())
 }
@@ -166,9 +321,15 @@ fn action_of<R: Abort + AllocGlobal>(
 #[test]
 fn a_look_up_is_what_the_slow_program_answers(rt: HostRuntime) -> Result<(), Fail> {
     let alloc = rt.alloc();
-    let input =
+    let lines =
         b"{\"ask\":\"commit\",\"files\":[{\"file\":\"22222222-2222-4222-8222-222222222222\",\"partition\":\"a\",\"text\":\"x\"}]}\n{\"ask\":\"commit\",\"files\":[{\"file\":\"11111111-1111-4111-8111-111111111111\",\"partition\":\"b\",\"text\":\"abc\"}]}\n{\"ask\":\"commit\",\"files\":[{\"file\":\"11111111-1111-4111-8111-111111111111\",\"partition\":\"a\",\"text\":\"hello\"}]}\n{\"ask\":\"files\",\"partition\":\"a\"}\n";
-    let (_, bytes) = written::<Brand, _>(&rt, MemStore::empty(alloc), &["serve", "work"], input)?;
+    let left = run::<Brand, _>(
+        &rt,
+        MemStore::empty(alloc),
+        &["serve", "work"],
+        input(&rt, lines, &[], &[])?,
+        output(&rt, &[])?,
+    )?;
     let mut actions = Vec::new(alloc);
     actions.push(action_of(&rt, MOMENT, "22222222-2222-4222-8222-222222222222", "a", 1)?)?;
     actions.push(action_of(
@@ -189,7 +350,8 @@ fn a_look_up_is_what_the_slow_program_answers(rt: HostRuntime) -> Result<(), Fai
     let maps = rebuild(alloc, actions.as_slice(), newest)?;
     let reply = answer(alloc, &partition(&rt, "a"), &maps, newest)?;
     let line = print_reply(alloc, &reply, 9)?;
-    let last = bytes
+    let last = left
+        .written
         .as_slice()
         .trim_ascii_end()
         .rsplit(|byte| *byte == b'\n')

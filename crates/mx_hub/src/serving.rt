@@ -1,6 +1,7 @@
-ghost use Rattle.std.specs.Prelude.{◌≡◌, ◌≢◌, ◌++◌, ◌∷◌, [], ℕ, length, take, IfOk, IfSome, OnErr, true, string_bytes};
+ghost use Rattle.std.specs.Prelude.{◌≡◌, ◌≢◌, ◌<◌, ◌^◌, ◌++◌, ◌∷◌, [], ℕ, length, take, IfOk, IfSome, OnErr, true, string_bytes};
 ghost use Rattle.mx_store.specs.Calls.{Rose};
 ghost use Rattle.mx_store.specs.Streams.{added};
+ghost use Rattle.mx_lines.specs.Ahead.{CountsBytes};
 ghost use Rattle.mx_lines.specs.Lines.{lines_of};
 ghost use Rattle.mx_hub.specs.History.{HistoryIf, AllAnsweredIf, printed, printed_replies};
 
@@ -48,6 +49,8 @@ pub fn serve<S: Store, I: Source, O: Sink, N: Named>(
     ensures read { result.status ≡ Status.Done → IfSome (I.left source.new) (λ left. left ≡ []) }
     ensures whole { result.status ≢ Status.SinkFault → O.written sink.new ≡ added (O.written sink.old) (printed_replies result.answers) }
     ensures part { result.status ≡ Status.SinkFault → (n : ℕ) × (O.written sink.new ≡ added (O.written sink.old) (take n (printed_replies result.answers))) }
+    ensures short { result.status ≡ Status.Done → IfSome (I.left source.old) (λ input. length input < 2 ^ 40) }
+    ensures too_long { result.status ≡ Status.TooLong → CountsBytes 0 (I.left source.old) (2 ^ 40) (I.left source.new) }
     ensures never_words { result.status ≢ Status.Words }
     ensures source_fault { result.status ≡ Status.SourceFault → Rose (I.faults source.old) (I.faults source.new) }
     ensures sink_fault { result.status ≡ Status.SinkFault → Rose (O.faults sink.old) (O.faults sink.new) }

@@ -1,8 +1,8 @@
-ghost use Rattle.std.specs.Prelude.{◌≡◌, ◌≢◌, ◌≤◌, ◌<◌, ◌+◌, ◌^◌, ◌↔◌, [], length, drop, take, IfOk, IfErr, IfSome, IsErrOf, IsTrue, MatchBool, OnOk};
+ghost use Rattle.std.specs.Prelude.{◌≡◌, ◌≢◌, ◌≤◌, ◌<◌, ◌+◌, ◌^◌, ◌↔◌, [], length, drop, take, IfOk, IfErr, IfSome, IsErrOf, IsTrue, MatchBool, OnOk, OnErr};
 ghost use Rattle.mx_store.specs.Calls.{Rose, CountsErrors};
 ghost use Rattle.mx_store.specs.Streams.{before};
 ghost use Rattle.mx_lines.specs.declared.ahead.ReadError.TheVariants.{NoMemory};
-ghost use Rattle.mx_lines.specs.Ahead.{all_left, budget};
+ghost use Rattle.mx_lines.specs.Ahead.{all_left, budget, CountsBytes};
 
 use mx_store::{Failed, Source};
 use std::alloc::{AllocError, Global};
@@ -91,6 +91,7 @@ fn read_front<I: Source>(source: &mut I, buffer: &mut [u8], most: usize) -> Resu
     ensures bound { IfOk result (λ n. n ≤ most) }
     ensures bytes { IfOk result (λ n. I.left source.old ≡ before (take n buffer.new) (I.left source.new)) }
     ensures end { IfOk result (λ n. n ≡ 0 → IfSome (I.left source.old) (λ left. left ≡ [])) }
+    ensures kept { OnErr result (I.left source.new ≡ I.left source.old) }
     ensures size { length buffer.new ≡ length buffer.old }
     ensures cause { CountsErrors (I.faults source.old) (I.faults source.new) result }
 {
@@ -109,6 +110,7 @@ fn refill<I: Source>(source: &mut I, ahead: &mut Ahead) -> Result<bool, ReadErro
     ensures no_memory { IsErrOf result ReadError.NoMemory → ⊥ }
     ensures faults { OnOk result (I.faults source.new ≡ I.faults source.old) }
     ensures quiet { IfErr result (λ e. e ≢ ReadError.Fault → I.faults source.new ≡ I.faults source.old) }
+    ensures count { CountsBytes ahead.old.taken (I.left source.old) ahead.new.taken (I.left source.new) }
 {
     let room = INPUT_LIMIT - ahead.taken;
     if room == 0 {
@@ -134,6 +136,7 @@ pub(crate) fn fill<I: Source>(source: &mut I, ahead: &mut Ahead) -> Result<bool,
     ensures no_memory { IsErrOf result ReadError.NoMemory → ⊥ }
     ensures faults { OnOk result (I.faults source.new ≡ I.faults source.old) }
     ensures quiet { IfErr result (λ e. e ≢ ReadError.Fault → I.faults source.new ≡ I.faults source.old) }
+    ensures count { CountsBytes ahead.old.taken (I.left source.old) ahead.new.taken (I.left source.new) }
 {
     if ahead.bytes().is_empty() {
         return refill(source, ahead);

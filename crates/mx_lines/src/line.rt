@@ -1,7 +1,7 @@
 ghost use Rattle.std.specs.Prelude.{◌≡◌, ◌≢◌, ◌≤◌, ◌<◌, ◌+◌, ◌^◌, ◌++◌, ◌==◌, [], ◌∷◌, length, take, drop, ℕ, List, IfOk, IfErr, IfSome, IfNone, OnSome, OnOk, IsErrOf, MatchOption, MatchBool};
 ghost use Rattle.std.specs.List.{position_or_len};
 ghost use Rattle.mx_store.specs.Calls.{Rose};
-ghost use Rattle.mx_lines.specs.Ahead.{all_left, budget};
+ghost use Rattle.mx_lines.specs.Ahead.{all_left, budget, CountsBytes};
 ghost use Rattle.mx_lines.specs.Lines.{IsLine, TakesLine, before_newline, after_newline, has_newline};
 
 use crate::ahead::{Ahead, ReadError, fill};
@@ -89,6 +89,7 @@ pub fn next_line<I: Source>(
     ensures too_long { IsErrOf result ReadError.TooLong → ahead.new.taken ≡ 2 ^ 40 }
     ensures faults { OnOk result (I.faults source.new ≡ I.faults source.old) }
     ensures quiet { IfErr result (λ e. e ≢ ReadError.Fault → I.faults source.new ≡ I.faults source.old) }
+    ensures count { CountsBytes ahead.old.taken (I.left source.old) ahead.new.taken (I.left source.new) }
 {
     let mut line = Line::Whole {
         bytes: Bytes::new(alloc),

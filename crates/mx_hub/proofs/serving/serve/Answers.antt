@@ -1,7 +1,9 @@
-use Rattle.std.proofs.Common.{◌≡◌, ◌+◌, ◌∷◌, [], ◌++◌, length, sym, ap, subst, ◌∙◌, List, ℕ, take, refl}
+use Rattle.std.proofs.Common.{◌≡◌, ◌<◌, ◌^◌, ◌+◌, ◌∷◌, [], ◌++◌, length, sym, ap, subst, ◌∙◌, List, ℕ, take, refl, rules, arith}
 use Rattle.std.specs.Prelude.{IfSome, Option, Some, None}
 use Rattle.mx_store.specs.declared.change.Change.{Change}
 use Rattle.mx_store.specs.Streams.{added, before}
+use Rattle.mx_lines.specs.Ahead.{CountsBytes}
+use Rattle.mx_lines.proofs.Counting.{counts-same, counts-trans}
 use Rattle.mx_lines.specs.Lines.{lines_of, LinesGo}
 use Rattle.mx_lines.proofs.Lines.{line_on, lines_start, lines_done}
 use Rattle.mx_lines.proofs.Pieces.{added-nothing, before-nothing}
@@ -21,6 +23,7 @@ loop-line-init g c = record {
   lines = [];
   taken = subst (λ (o : Option (List ℕ)). LinesGo (g.I.Source.left c.args.source.now) [] o)
       (sym (ap (λ (front : List ℕ). before front (g.I.Source.left c.args.source.now)) c.in-Ok.ensures.ahead ∙ before-nothing (g.I.Source.left c.args.source.now))) (lines_start (g.I.Source.left c.args.source.now));
+  count = subst (λ (t : ℕ). CountsBytes 0 (g.I.Source.left c.args.source.now) t (g.I.Source.left c.args.source.now)) (sym c.in-Ok.ensures.taken) (counts-same 0 (g.I.Source.left c.args.source.now));
   fits = subst (λ (l : List Answered). FitsIf g.N.Named.moment g.N.Named.opening (g.S.Store.journal c.args.world.now.store) [] l) (sym c.new-answers.ensures)
       (fits_nothing g.N.Named.moment g.N.Named.opening (standing g.S.Store.journal c.args.world.now) c.applied-applied.ensures.kept c.requires.settled c.requires.fresh);
   settled = c.requires.settled;
@@ -117,6 +120,7 @@ loop-line-preserved g c =
     let two = did.ok ∙ ap (λ (l : List ℕ). added (g.O.Sink.written c.loop-line.sink) l) (c.as_bytes.ensures.value ∙ c.in-Ok-keep.ensures.text) in record {
       lines = i.lines ++ one.0 ∷ [];
       taken = one.2;
+      count = counts-trans 0 _ _ (g.I.Source.left c.args.source.now) (g.I.Source.left c.loop-line.source) (g.I.Source.left c.next_line.new.source) i.count c.next_line.ensures.count;
       fits = subst (λ (kept : List Answered). FitsIf g.N.Named.moment g.N.Named.opening (g.S.Store.journal c.answer.new.world.store) (i.lines ++ one.0 ∷ []) kept) (sym c.in-Ok-keep.ensures.kept)
           (fits_push g.N.Named.moment g.N.Named.opening (g.S.Store.journal c.loop-line.world.store) (g.S.Store.journal c.answer.new.world.store) i.lines c.loop-line.answers c.in-Ok-Some.line c.len-number.result c.in-Ok-answer.answered one.0 one.1 (c.len-number.ensures) i.fits c.in-Ok-answer.ensures.answered);
       settled = c.in-Ok-answer.ensures.settled;
@@ -126,3 +130,23 @@ loop-line-preserved g c =
       sink_faults = did.cause ∙ i.sink_faults;
       store_faults = c.in-Ok-answer.ensures.faults ∙ i.store_faults;
     }
+
+pub returns-in-Err-TooLong-clause-too_long : goal.returns-in-Err-TooLong-clause-too_long
+returns-in-Err-TooLong-clause-too_long g c = λ _.
+    let i = c.loop-line.invariant in
+    subst (λ (t : ℕ). CountsBytes 0 (g.I.Source.left c.args.source.now) t (g.I.Source.left c.next_line.new.source)) (c.next_line.ensures.too_long (search rules))
+        (counts-trans 0 _ _ (g.I.Source.left c.args.source.now) (g.I.Source.left c.loop-line.source) (g.I.Source.left c.next_line.new.source) i.count c.next_line.ensures.count)
+
+fewer : (input left : Option (List ℕ)) (taken : ℕ) → CountsBytes 0 input taken left → IfSome left (λ (l : List ℕ). l ≡ []) → taken < 2 ^ 40 → IfSome input (λ (l : List ℕ). length l < 2 ^ 40)
+fewer None left taken count none less = tt
+fewer (Some bytes) None taken count none less = absurd count
+fewer (Some bytes) (Some l) taken count none less = let e = ap (λ (x : List ℕ). length x) none in omega (arith, e, count, less)
+
+pub returns-in-Ok-None-clause-short : goal.returns-in-Ok-None-clause-short
+returns-in-Ok-None-clause-short g c = λ _.
+    let i = c.loop-line.invariant in
+    fewer (g.I.Source.left c.args.source.now) (g.I.Source.left c.next_line.new.source) c.next_line.new.ahead.taken
+        (counts-trans 0 _ _ (g.I.Source.left c.args.source.now) (g.I.Source.left c.loop-line.source) (g.I.Source.left c.next_line.new.source) i.count c.next_line.ensures.count)
+        (nothing_left c.next_line.new.ahead.ahead (g.I.Source.left c.next_line.new.source)
+            (subst (λ (o : Option (List ℕ)). IfSome o (λ (l : List ℕ). l ≡ [])) (sym (rw c.in-Ok-None.field-0-is at c.in-Ok-None.ensures.end)) (rw c.in-Ok-None.field-0-is at c.in-Ok-None.ensures.line)))
+        (rw c.in-Ok-None.field-0-is at c.in-Ok-None.ensures.room)

@@ -1,6 +1,6 @@
 use Rattle.std.proofs.Common.{◌≡◌, ℕ, List, true}
 use Rattle.mx_store.specs.Streams.{added}
-use Rattle.mx_lines.specs.Ahead.{all_left, budget}
+use Rattle.mx_lines.specs.Ahead.{all_left, budget, CountsBytes}
 use Rattle.mx_lines.specs.Lines.{LinesGo}
 use Rattle.mx_hub.specs.History.{printed_replies}
 use Rattle.mx_hub.specs.Steps.{FitsIf}
@@ -10,6 +10,7 @@ abbrev pub invariant-loop-line : goal.invariant-loop-line
 invariant-loop-line g l = record {
   lines : List (List ℕ);
   taken : LinesGo (g.I.Source.left l.fn.source) lines (all_left l.ahead (g.I.Source.left l.source));
+  count : CountsBytes 0 (g.I.Source.left l.fn.source) l.ahead.taken (g.I.Source.left l.source);
   fits : FitsIf g.N.Named.moment g.N.Named.opening (g.S.Store.journal l.world.store) lines l.answers;
   settled : l.world.settled ≡ true;
   written : g.O.Sink.written l.sink ≡ added (g.O.Sink.written l.fn.sink) (printed_replies l.answers);

@@ -1,5 +1,5 @@
 use Rattle.std.proofs.Common.{◌≡◌, ◌+◌, ℕ, List, [], length}
-use Rattle.mx_lines.specs.Ahead.{all_left, budget}
+use Rattle.mx_lines.specs.Ahead.{all_left, budget, CountsBytes}
 use Rattle.mx_lines.specs.Lines.{IsLine, PieceGoes}
 use Rattle.mx_lines.proofs.line.next_line.Given as goal
 
@@ -10,6 +10,7 @@ invariant-loop-line g l = record {
   so_far : PieceGoes (all_left l.fn.ahead (g.I.Source.left l.fn.source)) piece (all_left l.ahead (g.I.Source.left l.source));
   nothing : piece ≡ [] → all_left l.ahead (g.I.Source.left l.source) ≡ all_left l.fn.ahead (g.I.Source.left l.fn.source);
   spent : budget l.ahead + length piece ≡ budget l.fn.ahead;
+  count : CountsBytes l.fn.ahead.taken (g.I.Source.left l.fn.source) l.ahead.taken (g.I.Source.left l.source);
   faults : g.I.Source.faults l.source ≡ g.I.Source.faults l.fn.source;
 }
 

@@ -135,7 +135,7 @@ pub returns-in-Err-TooLong-clause-too_long : goal.returns-in-Err-TooLong-clause-
 returns-in-Err-TooLong-clause-too_long g c = λ _.
     let i = c.loop-line.invariant in
     subst (λ (t : ℕ). CountsBytes 0 (g.I.Source.left c.args.source.now) t (g.I.Source.left c.next_line.new.source)) (c.next_line.ensures.too_long (search rules))
-        (counts-trans 0 _ _ (g.I.Source.left c.args.source.now) (g.I.Source.left c.loop-line.source) (g.I.Source.left c.next_line.new.source) i.count c.next_line.ensures.count)
+    (counts-trans 0 _ _ (g.I.Source.left c.args.source.now) (g.I.Source.left c.loop-line.source) (g.I.Source.left c.next_line.new.source) i.count c.next_line.ensures.count)
 
 fewer : (input left : Option (List ℕ)) (taken : ℕ) → CountsBytes 0 input taken left → IfSome left (λ (l : List ℕ). l ≡ []) → taken < 2 ^ 40 → IfSome input (λ (l : List ℕ). length l < 2 ^ 40)
 fewer None left taken count none less = tt
@@ -146,7 +146,7 @@ pub returns-in-Ok-None-clause-short : goal.returns-in-Ok-None-clause-short
 returns-in-Ok-None-clause-short g c = λ _.
     let i = c.loop-line.invariant in
     fewer (g.I.Source.left c.args.source.now) (g.I.Source.left c.next_line.new.source) c.next_line.new.ahead.taken
-        (counts-trans 0 _ _ (g.I.Source.left c.args.source.now) (g.I.Source.left c.loop-line.source) (g.I.Source.left c.next_line.new.source) i.count c.next_line.ensures.count)
-        (nothing_left c.next_line.new.ahead.ahead (g.I.Source.left c.next_line.new.source)
-            (subst (λ (o : Option (List ℕ)). IfSome o (λ (l : List ℕ). l ≡ [])) (sym (rw c.in-Ok-None.field-0-is at c.in-Ok-None.ensures.end)) (rw c.in-Ok-None.field-0-is at c.in-Ok-None.ensures.line)))
-        (rw c.in-Ok-None.field-0-is at c.in-Ok-None.ensures.room)
+    (counts-trans 0 _ _ (g.I.Source.left c.args.source.now) (g.I.Source.left c.loop-line.source) (g.I.Source.left c.next_line.new.source) i.count c.next_line.ensures.count)
+    (nothing_left c.next_line.new.ahead.ahead (g.I.Source.left c.next_line.new.source)
+    (subst (λ (o : Option (List ℕ)). IfSome o (λ (l : List ℕ). l ≡ [])) (sym (rw c.in-Ok-None.field-0-is at c.in-Ok-None.ensures.end)) (rw c.in-Ok-None.field-0-is at c.in-Ok-None.ensures.line)))
+    (rw c.in-Ok-None.field-0-is at c.in-Ok-None.ensures.room)

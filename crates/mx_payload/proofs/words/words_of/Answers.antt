@@ -1,0 +1,17 @@
+use Rattle.std.proofs.Common.{None}
+use Rattle.std.proofs.lemmas.Result.{err_from_is_err_and}
+use Rattle.mx_payload.specs.Decoding.{words_in}
+use Rattle.mx_payload.proofs.Loop.{goes_on, ends, is_done}
+use Rattle.mx_payload.proofs.words.words_of.Goals as goal
+
+pub returns-in_err-word : goal.returns-in_err-word
+returns-in_err-word c =
+    let p = err_from_is_err_and c.from_residual.result c.from_residual.ensures.1 in
+    rw (p.1, p.2) (ends c.in_err-word.field-0.0 c.args.plain c.loop.words.items c.args.count c.loop.counter c.loop.rest.now (words_in c.args.plain None c.args.count c.args.bytes.now) c.loop-test.true (rw c.as_slice.ensures.value at c.in_err-word.ensures) c.loop.invariant)
+
+pub loop-preserved : goal.loop-preserved
+loop-preserved c =
+    rw c.in_ok-push.ensures.items (goes_on c.args.plain c.loop.words.items c.args.count c.loop.counter c.loop.rest.now c.in_ok-word.word c.in_ok-word.after.now (words_in c.args.plain None c.args.count c.args.bytes.now) c.loop-test.true (rw c.as_slice.ensures.value at c.in_ok-word.ensures) c.loop.invariant)
+
+pub returns : goal.returns
+returns c = is_done c.args.plain c.loop.words.items c.args.count c.loop.counter c.loop.rest.now (words_in c.args.plain None c.args.count c.args.bytes.now) c.loop-test.false c.loop.invariant

@@ -1,0 +1,4 @@
+pub mod Rules
+pub mod Encoding
+pub mod Decoding
+pub mod Union

@@ -1,4 +1,4 @@
-ghost use Rattle.std.specs.Prelude.{None};
+ghost use Rattle.std.specs.Prelude.{◌≡◌, None};
 
 use mx_store::{Failed, Sink, Source};
 use std::io::{Read, Stdin, Stdout, Write};
@@ -11,7 +11,10 @@ pub struct Input {
 }
 
 impl Input {
-    pub fn over(reader: Stdin) -> Input {
+    /// No call has failed yet.
+    pub fn over(reader: Stdin) -> Input
+        ensures { result.faults ≡ 0 }
+    {
         Input { reader, faults: 0 }
     }
 }
@@ -40,7 +43,10 @@ pub struct Output {
 }
 
 impl Output {
-    pub fn over(writer: Stdout) -> Output {
+    /// No call has failed yet.
+    pub fn over(writer: Stdout) -> Output
+        ensures { result.faults ≡ 0 }
+    {
         Output { writer, faults: 0 }
     }
 }

@@ -27,12 +27,37 @@ use std::{env, io};
 // 2025-01-01 at midnight.
 const OPENING_MOMENT: u64 = 20_250_101_000_000_000;
 
-fn main(rt: HostRuntime) -> io::Result<ExitCode> {
-    let alloc = rt.alloc();
-    let mut words = Vec::new(alloc);
-    for word in env::args(&rt)?.skip(1) {
-        words.push(word)?;
+fn main(rt: HostRuntime) -> ExitCode {
+    let status = match words_of(&rt) {
+        Ok(words) => run(&rt, words.as_slice()),
+        Err(status) => status,
+    };
+    if let Some(message) = message_of(status) {
+        // A message that can't be written changes no status.
+        let _ = eprintln!(rt; "mdt: {message}");
     }
+    ExitCode::from(code_of(status))
+}
+
+// The words behind the program's name. One that is no UTF-8 is the word of no command.
+fn words_of(rt: &HostRuntime) -> Result<Vec<String>, Status> {
+    let all = match env::args(rt) {
+        Ok(all) => all,
+        Err(error) if error.kind() == io::ErrorKind::OutOfMemory => return Err(Status::NoMemory),
+        Err(_) => return Err(Status::Words),
+    };
+    let mut words = Vec::new(rt.alloc());
+    for word in all.skip(1) {
+        if words.push(word).is_err() {
+            return Err(Status::NoMemory);
+        }
+    }
+    Ok(words)
+}
+
+// Carries out the command over standard input and output, and a store in memory.
+fn run(rt: &HostRuntime, words: &[String]) -> Status {
+    let alloc = rt.alloc();
     let mut source = standard::Input::over(rt.stdin());
     let mut sink = standard::Output::over(rt.stdout());
     let Ended {
@@ -41,16 +66,13 @@ fn main(rt: HostRuntime) -> io::Result<ExitCode> {
         answers: _,
     } = command::command::<MemStore, standard::Input, standard::Output, Brand>(
         alloc,
-        words.as_slice(),
+        words,
         opening_moment(),
         MemStore::empty(alloc),
         &mut source,
         &mut sink,
     );
-    if let Some(message) = message_of(status) {
-        eprintln!(rt; "mdt: {message}")?;
-    }
-    Ok(ExitCode::from(code_of(status)))
+    status
 }
 
 fn opening_moment() -> Instant

@@ -7,10 +7,10 @@ use Rattle.std.proofs.lemmas.List.{take_all}
 use Rattle.mx_store.specs.declared.change.Change.{Change}
 use Rattle.mx_store.specs.Objects.{at_path, objects_of}
 use Rattle.mx_store.proofs.Paths.{at_nothing}
-use Rattle.mx_world.specs.State.{KeptIf, IsEmptyFolder}
-use Rattle.mx_world.specs.Answers.{IsValidSince}
-use Rattle.mx_world.proofs.Steps.{begins-told}
-use Rattle.mx_world.proofs.Answering.{valid_since}
+use Rattle.mx_state.specs.State.{KeptIf, IsEmptyFolder}
+use Rattle.mx_state.specs.Answers.{IsValidSince}
+use Rattle.mx_state.proofs.Steps.{begins-told}
+use Rattle.mx_state.proofs.Answering.{valid_since}
 use Rattle.mx_hub.specs.History.{HistoryIf}
 
 module _ (opening journal : Option (List Change)) (same : opening ≡ journal) (empty : IsEmptyFolder journal) where

@@ -4,8 +4,8 @@ ghost use Rattle.mx_store.specs.Journal.{Begins};
 ghost use Rattle.mx_store.specs.Streams.{added};
 ghost use Rattle.mx_lines.specs.Ahead.{CountsBytes};
 ghost use Rattle.mx_lines.specs.Lines.{lines_of};
-ghost use Rattle.mx_world.specs.State.{IsEmptyFolder};
-ghost use Rattle.mx_world.specs.Answers.{IsValidSince};
+ghost use Rattle.mx_state.specs.State.{IsEmptyFolder};
+ghost use Rattle.mx_state.specs.Answers.{IsValidSince};
 ghost use Rattle.mx_hub.specs.History.{HistoryIf, AllAnsweredIf, printed_replies};
 ghost use Rattle.mdt.specs.Words as grammar;
 

@@ -13,11 +13,11 @@ use Rattle.mx_ask.specs.declared.reply.Reply.{Reply}
 use Rattle.mx_lines.specs.declared.line.Line.{Line}
 use Rattle.mx_lines.specs.Lines.{IsLine, LinesGo, lines_of}
 use Rattle.mx_lines.proofs.Pieces.{added-added}
-use Rattle.mx_world.specs.declared.answered.Answered.{Answered}
-use Rattle.mx_world.specs.Commits.{commit_changes}
-use Rattle.mx_world.specs.Making.{Standing, Keeps}
-use Rattle.mx_world.specs.Answers.{IsReplyTo}
-use Rattle.mx_world.proofs.CommitSteps.{told}
+use Rattle.mx_state.specs.declared.answered.Answered.{Answered}
+use Rattle.mx_state.specs.Commits.{commit_changes}
+use Rattle.mx_state.specs.Making.{Standing, Keeps}
+use Rattle.mx_state.specs.Answers.{IsReplyTo}
+use Rattle.mx_state.proofs.CommitSteps.{told}
 use Rattle.mx_hub.specs.History.{IsLineReply, IsAnswerOf, AnswersFit, last_seq, IsUnfinished, HistoryIf, AllAnsweredIf, printed, printed_replies}
 use Rattle.mx_hub.specs.Steps.{IsLineAnswered, LineAnsweredIf, LineEndsIf, FitsIf}
 

@@ -9,8 +9,8 @@ use Rattle.mx_ask.specs.Asks.{IsAsk}
 use Rattle.mx_lines.specs.declared.line.Line.{Line}
 use Rattle.mx_lines.specs.declared.line.Line.TheVariants.{Whole, Long}
 use Rattle.mx_lines.specs.Lines.{IsLine, longest_line}
-use Rattle.mx_world.specs.declared.answered.Answered.{Answered}
-use Rattle.mx_world.specs.Answers.{AnswersIf, EndsEarly, EndsEarlyIf}
+use Rattle.mx_state.specs.declared.answered.Answered.{Answered}
+use Rattle.mx_state.specs.Answers.{AnswersIf, EndsEarly, EndsEarlyIf}
 use Rattle.mx_hub.specs.History.{IsNoAsk, IsUnfinished}
 use Rattle.mx_hub.specs.Steps.{LineAnsweredIf, LineEndsIf, RefusedIf}
 

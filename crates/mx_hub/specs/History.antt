@@ -9,8 +9,8 @@ use Rattle.mx_ask.specs.declared.reply.Reply.{Reply}
 use Rattle.mx_ask.specs.Asks.{IsAsk}
 use Rattle.mx_ask.specs.Replies.{reply_text}
 use Rattle.mx_lines.specs.Lines.{lines_of}
-use Rattle.mx_world.specs.declared.answered.Answered.{Answered}
-use Rattle.mx_world.specs.Answers.{IsReplyTo, IsBrokenOff}
+use Rattle.mx_state.specs.declared.answered.Answered.{Answered}
+use Rattle.mx_state.specs.Answers.{IsReplyTo, IsBrokenOff}
 
 -- no ask has this line
 abbrev pub IsNoAsk : List ℕ → Type 0

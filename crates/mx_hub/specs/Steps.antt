@@ -5,7 +5,7 @@ use Rattle.mx_ask.specs.declared.reply.Refusal.{Refusal}
 use Rattle.mx_ask.specs.declared.reply.Reply.{Reply}
 use Rattle.mx_lines.specs.declared.line.Line.{Line}
 use Rattle.mx_lines.specs.Lines.{IsLine}
-use Rattle.mx_world.specs.declared.answered.Answered.{Answered}
+use Rattle.mx_state.specs.declared.answered.Answered.{Answered}
 use Rattle.mx_hub.specs.History.{IsLineReply, IsUnfinished, AnswersFit, last_seq}
 
 -- the answer of the line, by the journals before it and after it

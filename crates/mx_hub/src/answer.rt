@@ -1,7 +1,7 @@
 ghost use Rattle.std.specs.Prelude.{◌≡◌, ◌++◌, ◌∷◌, [], ℕ, List, IfOk, OnOk, OnErr, true, string_bytes};
 ghost use Rattle.mx_store.specs.Calls.{CountsErrors};
 ghost use Rattle.mx_lines.specs.declared.line.Line.TheVariants.{Whole};
-ghost use Rattle.mx_world.specs.Making.{Keeps, standing};
+ghost use Rattle.mx_state.specs.Making.{Keeps, standing};
 ghost use Rattle.mx_hub.specs.History.{printed};
 ghost use Rattle.mx_hub.specs.Steps.{LineAnsweredIf, LineEndsIf, RefusedIf};
 

@@ -1,12 +1,12 @@
 ghost use Rattle.std.specs.Prelude.{◌≡◌, IfOk, OnOk, OnErr, true, IfSome};
 ghost use Rattle.std.specs.FinMap as finmap;
 ghost use Rattle.mx_store.specs.Calls.{CountsErrors, Counts};
-ghost use Rattle.mx_world.specs.Answers.{AnswersIf, EndsEarlyIf};
-ghost use Rattle.mx_world.specs.Making.{Keeps, Replies, given_reply, standing};
+ghost use Rattle.mx_state.specs.Answers.{AnswersIf, EndsEarlyIf};
+ghost use Rattle.mx_state.specs.Making.{Keeps, Replies, given_reply, standing};
 
-use crate::answered::Answered;
 use crate::world::World;
 use mx_ask::{Ask, Refusal, Reply};
+use mx_state::Answered;
 use mx_store::{Failed, Named, Store, StoreError};
 use std::alloc::Global;
 

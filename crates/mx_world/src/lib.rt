@@ -3,14 +3,14 @@
 //! A `World` holds the store, the instant that was drawn last, the number of changes made, and the newest commit of each
 //! group. It makes one call of the store at a time, and each change keeps the table.
 //!
-//! Invariant (`specs/State.antt`, `IsKept`): at every prefix of the journal since the opening each completed commit's
+//! Invariant (`mx_state/specs/State.antt`, `IsKept`): at every prefix of the journal since the opening each completed commit's
 //! object reads, and its log adds what the commit lists. While no call has failed, the world also knows the folder
 //! (`IsSettled`): no name has a greater instant than the last one, and each group's newest commit is the one that is kept.
 //!
 //! | call | contract |
 //! |---|---|
 //! | `World::over` | a world over a told journal that leaves no object |
-//! | `World::act` | the answer to an ask, by the journals before it and after it (`specs/Answers.antt`) |
+//! | `World::act` | the answer to an ask, by the journals before it and after it (`mx_state/specs/Answers.antt`) |
 //! | `World::applied` | the number of changes made |
 //! | `World::into_store` | the store: at every prefix since the opening the logs say what the commits list |
 //!
@@ -18,11 +18,9 @@
 #![tactic(auto)]
 
 mod act;
-mod answered;
 mod commit;
 mod lookup;
-mod plan;
 mod world;
 
-pub use answered::Answered;
+pub use mx_state::Answered;
 pub use world::World;

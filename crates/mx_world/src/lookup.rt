@@ -1,13 +1,12 @@
-ghost use Rattle.std.specs.Prelude.{◌≡◌, ◌++◌, IfOk, IfSome, OnOk, option_to_list, codes};
+ghost use Rattle.std.specs.Prelude.{◌≡◌, IfOk, IfSome, codes};
 ghost use Rattle.std.specs.List.{filter_map};
 ghost use Rattle.std.specs.FinMap as finmap;
 ghost use Rattle.mx_base.specs.Paths.{commit_instant, files_log_path};
 ghost use Rattle.mx_store.specs.Calls.{Counts};
 ghost use Rattle.mx_store.specs.Objects.{objects_of, paths_with};
-ghost use Rattle.mx_model.specs.Maps.{with_file_in};
-ghost use Rattle.mx_world.specs.Table.{words_at};
-ghost use Rattle.mx_world.specs.Look.{files_reply, words_of, sizes_of, greatest};
-ghost use Rattle.mx_world.specs.Making.{Keeps, standing};
+ghost use Rattle.mx_state.specs.Table.{words_at};
+ghost use Rattle.mx_state.specs.Look.{files_reply, words_of, sizes_of};
+ghost use Rattle.mx_state.specs.Making.{Keeps, standing};
 
 use crate::world::World;
 use mx_ask::Reply;
@@ -15,8 +14,9 @@ use mx_base::{Instant, Partition, Path};
 use mx_lists::Listed;
 use mx_meta::{AddedFile, AddedLog};
 use mx_model::Numbers;
+use mx_state::{add_words, commit_instants, newest_of};
 use mx_store::{Named, Store, StoreError};
-use std::alloc::{AllocError, Global};
+use std::alloc::Global;
 
 impl<S: Store, N: Named> World<S, N> {
     /// The files of a partition at the newest completed commit. The logs of the completed commits are read, and no other object.
@@ -78,66 +78,5 @@ impl<S: Store, N: Named> World<S, N> {
             Some(log) => Ok(log.added),
             None => Ok(Listed::new(alloc)),
         }
-    }
-}
-
-fn commit_instants(alloc: Global, paths: &[Path]) -> Result<Listed<Instant>, AllocError>
-    ensures { IfOk result (λ instants. instants ≡ filter_map commit_instant paths.now) }
-{
-    let mut instants = Listed::new(alloc);
-    for path in paths {
-        add_instant(&mut instants, path.commit_instant())?;
-    }
-    Ok(instants)
-}
-
-fn add_instant(instants: &mut Listed<Instant>, at: Option<Instant>) -> Result<(), AllocError>
-    ensures { OnOk result (instants.new ≡ instants.old ++ option_to_list at) }
-{
-    if let Some(at) = at {
-        instants.push(at)?;
-    }
-    Ok(())
-}
-
-fn add_words(
-    sizes: &mut Numbers,
-    partition: &Partition,
-    words: &[AddedFile],
-) -> Result<(), AllocError>
-    ensures { OnOk result (sizes.new ≡ sizes_of partition.now sizes.old words.now) }
-{
-    for word in words {
-        add_word(sizes, partition, word)?;
-    }
-    Ok(())
-}
-
-fn add_word(sizes: &mut Numbers, partition: &Partition, word: &AddedFile) -> Result<(), AllocError>
-    ensures { OnOk result (sizes.new ≡ with_file_in partition.now sizes.old word.now) }
-{
-    if word.partition.as_str() == partition.as_str() {
-        sizes.insert(word.name.clone()?, word.size)?;
-    }
-    Ok(())
-}
-
-// The greatest of the instants, and 0 where there is none.
-fn newest_of(instants: &[Instant]) -> Instant
-    ensures { result ≡ greatest instants.now }
-{
-    let mut newest = no_instant();
-    for at in instants {
-        newest = newest.max(*at);
-    }
-    newest
-}
-
-fn no_instant() -> Instant
-    ensures { result ≡ 0 }
-{
-    match Instant::new(0) {
-        Some(at) => at,
-        None => unreachable!(),
     }
 }

@@ -4,10 +4,10 @@ ghost use Rattle.mx_store.specs.Calls.{Counts, Finds, IsAbsent, with_change};
 ghost use Rattle.mx_store.specs.Objects.{objects_of, paths_with};
 ghost use Rattle.mx_store.specs.declared.change.Change.TheVariants.{Create};
 ghost use Rattle.mx_store.specs.Journal.{Begins};
-ghost use Rattle.mx_world.specs.Answers.{IsValidSince};
-ghost use Rattle.mx_world.specs.State.{KeptIf, IsEmptyFolder};
-ghost use Rattle.mx_world.specs.Commits.{instant_or_none};
-ghost use Rattle.mx_world.specs.Making.{Keeps, Makes, standing, with_made, with_latest};
+ghost use Rattle.mx_state.specs.Answers.{IsValidSince};
+ghost use Rattle.mx_state.specs.State.{KeptIf, IsEmptyFolder};
+ghost use Rattle.mx_state.specs.Commits.{instant_or_none};
+ghost use Rattle.mx_state.specs.Making.{Keeps, Makes, standing, with_made, with_latest};
 
 use mx_base::{Instant, Path};
 use mx_lists::{Bytes, Listed, Text};
@@ -28,7 +28,7 @@ pub struct World<S: Store, N: Named> {
 }
 
 impl<S: Store, N: Named> Model for World<S, N> {
-    ghost use Rattle.mx_world.specs.State.{Shown, shown_code, KeptIf};
+    ghost use Rattle.mx_state.specs.State.{Shown, shown_code, KeptIf};
 
     ghost Value = { Shown S };
 

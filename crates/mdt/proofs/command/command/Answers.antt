@@ -1,5 +1,5 @@
 use Rattle.std.proofs.Common.{sym, subst, List}
-use Rattle.mx_world.specs.declared.answered.Answered.{Answered}
+use Rattle.mx_state.specs.declared.answered.Answered.{Answered}
 use Rattle.mx_hub.specs.History.{HistoryIf}
 use Rattle.mdt.proofs.Beginning.{valid_nothing, history_nothing}
 use Rattle.mdt.proofs.command.command.Goals as goal

@@ -7,8 +7,8 @@ use Rattle.mx_lines.proofs.Counting.{counts-same, counts-trans}
 use Rattle.mx_lines.specs.Lines.{lines_of, LinesGo}
 use Rattle.mx_lines.proofs.Lines.{line_on, lines_start, lines_done}
 use Rattle.mx_lines.proofs.Pieces.{added-nothing, before-nothing}
-use Rattle.mx_world.specs.declared.answered.Answered.{Answered}
-use Rattle.mx_world.specs.Making.{standing}
+use Rattle.mx_state.specs.declared.answered.Answered.{Answered}
+use Rattle.mx_state.specs.Making.{standing}
 use Rattle.mx_hub.specs.History.{HistoryIf, printed_replies}
 use Rattle.mx_hub.specs.Steps.{FitsIf}
 use Rattle.mx_hub.proofs.Histories.{answered_ends, fits_push, history_ended, history_now, fits_nothing, answers_count, written-push, written-part}

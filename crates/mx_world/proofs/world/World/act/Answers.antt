@@ -1,6 +1,6 @@
 use Rattle.std.proofs.Common.{rules}
-use Rattle.mx_world.specs.Making.{standing}
-use Rattle.mx_world.proofs.Answering.{act_answers, act_early}
+use Rattle.mx_state.specs.Making.{standing}
+use Rattle.mx_state.proofs.Answering.{act_answers, act_early}
 use Rattle.mx_world.proofs.world.World.act.Goals as goal
 
 pub returns-clause-answers : goal.returns-clause-answers

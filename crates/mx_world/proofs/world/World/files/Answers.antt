@@ -3,9 +3,9 @@ use Rattle.std.specs.Prelude.{IfSome}
 use Rattle.std.specs.FinMap as finmap
 use Rattle.mx_store.specs.declared.change.Change.{Change}
 use Rattle.mx_store.specs.Objects.{objects_of}
-use Rattle.mx_world.specs.Making.{standing}
-use Rattle.mx_world.specs.Look.{sizes_of, words_of, greatest}
-use Rattle.mx_world.proofs.Looks.{files_found}
+use Rattle.mx_state.specs.Making.{standing}
+use Rattle.mx_state.specs.Look.{sizes_of, words_of, greatest}
+use Rattle.mx_state.proofs.Looks.{files_found}
 use Rattle.mx_world.proofs.world.World.files.Goals as goal
 
 pub returns-clause-answer : goal.returns-clause-answer

@@ -1,4 +1,4 @@
-use Rattle.mx_world.proofs.Answering.{valid_since}
+use Rattle.mx_state.proofs.Answering.{valid_since}
 use Rattle.mx_world.proofs.world.World.into_store.Goals as goal
 
 pub returns-clause-valid : goal.returns-clause-valid

@@ -1,7 +1,7 @@
 use Rattle.std.proofs.Common.{◌≡◌, ◌∙◌, sym, ap, subst, arith}
 use Rattle.std.specs.Prelude.{ℕ, ◌-◌, true}
-use Rattle.mx_world.specs.State.{KeptIf}
-use Rattle.mx_world.proofs.Steps.{begins-told}
+use Rattle.mx_state.specs.State.{KeptIf}
+use Rattle.mx_state.proofs.Steps.{begins-told}
 use Rattle.mx_world.proofs.world.World.over.Goals as goal
 
 pub invariant_of-result : goal.invariant_of-result

@@ -2,8 +2,8 @@ use Rattle.std.proofs.Common.{◌≡◌, ◌∙◌, sym, ap, subst, rules, None,
 use Rattle.std.specs.Prelude.{IsSome, Option}
 use Rattle.std.specs.FinMap as finmap
 use Rattle.mx_model.specs.Maps.{NumberMap}
-use Rattle.mx_world.specs.State.{KeptIf}
-use Rattle.mx_world.proofs.Steps.{told-place, place-made, told-small}
+use Rattle.mx_state.specs.State.{KeptIf}
+use Rattle.mx_state.proofs.Steps.{told-place, place-made, told-small}
 use Rattle.mx_world.proofs.world.World.reserve.Goals as goal
 
 made : (m n : NumberMap) (name group : List ℕ) → n ≡ finmap.insert m name 0 → name ≡ group → n ≡ finmap.insert m group 0

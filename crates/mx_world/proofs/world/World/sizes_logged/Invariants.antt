@@ -2,8 +2,8 @@ use Rattle.std.proofs.Common.{◌≡◌, take}
 use Rattle.std.specs.Prelude.{IfSome}
 use Rattle.std.specs.FinMap as finmap
 use Rattle.mx_store.specs.Objects.{objects_of}
-use Rattle.mx_world.specs.Making.{standing}
-use Rattle.mx_world.specs.Look.{words_of, sizes_of}
+use Rattle.mx_state.specs.Making.{standing}
+use Rattle.mx_state.specs.Look.{words_of, sizes_of}
 use Rattle.mx_world.proofs.world.World.sizes_logged.Given as goal
 
 abbrev pub invariant-loop-at : goal.invariant-loop-at

@@ -1,0 +1,28 @@
+use Rattle.mx_state.specs.Making.{standing}
+use Rattle.mx_state.specs.Plan.{commit_object}
+use Rattle.mx_state.proofs.CommitWhole.{err_as, step_now, step_may, step_makes, step_fails}
+use Rattle.mx_world.proofs.world.World.create_log.Goals as goal
+
+pub make-requires-clause-absent : goal.make-requires-clause-absent
+make-requires-clause-absent g c =
+    (step_now g.N.Named.moment g.N.Named.opening c.args.plan.at c.args.plan.log c.args.plan.added c.as_slice.result.now c.args.self.now.latest (commit_object c.args.plan c.args.self.now.latest) (standing g.S.Store.journal c.args.self.now) c.as_slice.ensures c.requires.may).0
+
+pub make-requires-clause-keeps : goal.make-requires-clause-keeps
+make-requires-clause-keeps g c =
+    (step_now g.N.Named.moment g.N.Named.opening c.args.plan.at c.args.plan.log c.args.plan.added c.as_slice.result.now c.args.self.now.latest (commit_object c.args.plan c.args.self.now.latest) (standing g.S.Store.journal c.args.self.now) c.as_slice.ensures c.requires.may).1
+
+pub returns-in_err-make-clause-makes : goal.returns-in_err-make-clause-makes
+returns-in_err-make-clause-makes g c =
+    step_fails c.args.plan.at c.args.plan.log c.args.plan.added c.as_slice.result.now c.args.self.now.latest (commit_object c.args.plan c.args.self.now.latest)
+    (standing g.S.Store.journal c.args.self.now) (standing g.S.Store.journal c.make.new.self) c.from_residual.result c.in_err-make.field-0.0 c.as_slice.ensures c.requires.settled
+    (rw c.in_err-make.was at c.make.ensures.makes) (err_as _ _ c.from_residual.ensures.0 c.from_residual.ensures.1)
+
+pub create_commit-requires-clause-may : goal.create_commit-requires-clause-may
+create_commit-requires-clause-may g c =
+    step_may g.N.Named.moment g.N.Named.opening c.args.plan.at c.args.plan.log c.args.plan.added c.as_slice.result.now (commit_object c.args.plan)
+    (standing g.S.Store.journal c.args.self.now) (standing g.S.Store.journal c.make.new.self) c.as_slice.ensures c.requires.may c.in_ok-make.ensures.makes
+
+pub returns-clause-makes : goal.returns-clause-makes
+returns-clause-makes g c =
+    step_makes c.args.plan.at c.args.plan.log c.args.plan.added c.as_slice.result.now (commit_object c.args.plan)
+    (standing g.S.Store.journal c.args.self.now) (standing g.S.Store.journal c.make.new.self) (standing g.S.Store.journal c.create_commit.new.self) c.create_commit.result c.as_slice.ensures c.in_ok-make.ensures.makes c.create_commit.ensures.makes

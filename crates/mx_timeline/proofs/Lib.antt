@@ -1,0 +1,4 @@
+pub mod NamesLemmas
+pub mod LeastLemmas
+pub mod StageLemmas
+pub mod TimelineLemmas

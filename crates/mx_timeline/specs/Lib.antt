@@ -1,0 +1,3 @@
+pub mod Timeline
+pub mod Stages
+pub mod Keeping

@@ -1,5 +1,5 @@
 -- What the paths of objects say, and that they are paths.
-use Rattle.std.proofs.Common.{◌≡◌, ◌≢◌, ◌≤◌, ℕ, zero, suc, ◌+◌, ◌/◌, ◌%◌, ◌^◌, ◌<◌, Bool, true, false, not, List, [], ◌∷◌, ◌++◌, length, get_or, take, drop, Option, Some, None, refl, sym, ◌∙◌, ap, subst, arith, length-append, take_at, drop_at, lit<, lit≤}
+use Rattle.std.proofs.Common.{◌≡◌, ◌≢◌, ◌≤◌, ℕ, ◌^◌, ◌<◌, Bool, true, false, not, List, [], ◌∷◌, ◌++◌, length, get_or, take, drop, Option, Some, None, refl, sym, ◌∙◌, ap, subst, arith, length-append, take_at, drop_at, lit<, lit≤}
 use Rattle.std.specs.Option.{SomeIff, IfSome}
 use Rattle.std.specs.Str.{IsCharBoundary, bytes_eq}
 use Rattle.std.proofs.Math.Seq.{get_or-append_seam}
@@ -10,7 +10,7 @@ use Rattle.std.proofs.lemmas.List.{append_cancel_left, get_or_append_left, take-
 use Rattle.std.proofs.lemmas.Bool.Decides.{nat_tests}
 use Rattle.mx_base.specs.Digits.{digits, instant_text, IsInstant}
 use Rattle.mx_base.specs.Names.{is_name_byte, is_path, is_segment, IsPath}
-use Rattle.mx_base.specs.Objects.{timeline_ending, metadata_ending, base_ending, part_front, shard_front, object_path, is_object_name, IsObjectName, is_delta_commit, is_instant, timeline_kinds, metadata_kinds}
+use Rattle.mx_base.specs.Objects.{timeline_ending, metadata_ending, base_ending, part_front, shard_front, object_path, IsObjectName, is_delta_commit, timeline_kinds, metadata_kinds}
 use Rattle.mx_base.specs.Parts.{part_name}
 use Rattle.mx_base.specs.Paths.{number_of}
 use Rattle.mx_base.specs.declared.part.Part.{Part}

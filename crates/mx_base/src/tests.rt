@@ -1,5 +1,7 @@
 use super::*;
 use mx_lists::Same;
+use std::alloc::Global;
+use std::process::Abort;
 use std::test::Fail;
 
 const LETTERS: &str = "abcdefghijklmnopqrstuvwxyz0123456789abcdefghijklmnopqrstuvwxyz0123456789";
@@ -262,140 +264,214 @@ fn the_index_partitions_have_these_names_and_shards(rt: HostRuntime) -> Result<(
     Ok(())
 }
 
+fn stands_at(rt: &impl Abort, alloc: Global, name: &ObjectName, text: &str) -> Result<(), Fail> {
+    let path = name.path(alloc)?;
+    assert_eq!(rt; path.as_str(), text);
+    let found = ObjectName::of(&path).expect(rt, text);
+    assert!(rt; found == *name, "{text}");
+    Ok(())
+}
+
 #[test]
-fn each_object_has_its_path_and_no_other(rt: HostRuntime) -> Result<(), Fail> {
-    let alloc = rt.alloc();
+fn the_objects_of_the_data_timeline_have_these_paths(rt: HostRuntime) -> Result<(), Fail> {
     let at = Instant::new(20_250_101_000_000_000).expect(&rt, "an instant");
-    let zero = Instant::new(0).expect(&rt, "an instant");
-    let (commit, clean, rollback, indexing) = (
-        ActionKind::Commit,
-        ActionKind::Clean,
-        ActionKind::Rollback,
-        ActionKind::Indexing,
-    );
-    let (requested, inflight, completed) = (
-        ActionState::Requested,
-        ActionState::Inflight,
-        ActionState::Completed,
-    );
-    let timeline = |kind, state| ObjectName::Timeline { at, kind, state };
-    let metadata = |at, kind, completed| ObjectName::Metadata {
-        at,
-        kind,
-        completed,
-    };
-    let base = |part, shard, upto, kind| ObjectName::Base {
-        part,
-        shard,
-        upto,
-        kind,
-    };
-    let log = |part, shard| ObjectName::Log { part, shard, at };
     let cases = [
-        (ObjectName::Config, ".hoodie/hoodie.properties"),
         (
-            timeline(commit, requested),
+            ActionKind::Commit,
+            ActionState::Requested,
             ".hoodie/20250101000000000.commit.requested",
         ),
         (
-            timeline(commit, inflight),
+            ActionKind::Commit,
+            ActionState::Inflight,
             ".hoodie/20250101000000000.inflight",
         ),
         (
-            timeline(commit, completed),
+            ActionKind::Commit,
+            ActionState::Completed,
             ".hoodie/20250101000000000.commit",
         ),
         (
-            timeline(clean, requested),
+            ActionKind::Clean,
+            ActionState::Requested,
             ".hoodie/20250101000000000.clean.requested",
         ),
         (
-            timeline(clean, inflight),
+            ActionKind::Clean,
+            ActionState::Inflight,
             ".hoodie/20250101000000000.clean.inflight",
         ),
         (
-            timeline(clean, completed),
+            ActionKind::Clean,
+            ActionState::Completed,
             ".hoodie/20250101000000000.clean",
         ),
         (
-            timeline(rollback, requested),
+            ActionKind::Rollback,
+            ActionState::Requested,
             ".hoodie/20250101000000000.rollback.requested",
         ),
         (
-            timeline(rollback, inflight),
+            ActionKind::Rollback,
+            ActionState::Inflight,
             ".hoodie/20250101000000000.rollback.inflight",
         ),
         (
-            timeline(rollback, completed),
+            ActionKind::Rollback,
+            ActionState::Completed,
             ".hoodie/20250101000000000.rollback",
         ),
         (
-            timeline(indexing, requested),
+            ActionKind::Indexing,
+            ActionState::Requested,
             ".hoodie/20250101000000000.indexing.requested",
         ),
         (
-            timeline(indexing, inflight),
+            ActionKind::Indexing,
+            ActionState::Inflight,
             ".hoodie/20250101000000000.indexing.inflight",
         ),
         (
-            timeline(indexing, completed),
+            ActionKind::Indexing,
+            ActionState::Completed,
             ".hoodie/20250101000000000.indexing",
         ),
+    ];
+    for (kind, state, text) in cases {
+        stands_at(
+            &rt,
+            rt.alloc(),
+            &ObjectName::Timeline { at, kind, state },
+            text,
+        )?;
+    }
+    stands_at(
+        &rt,
+        rt.alloc(),
+        &ObjectName::Config,
+        ".hoodie/hoodie.properties",
+    )
+}
+
+#[test]
+fn the_objects_of_the_metadata_timeline_have_these_paths(rt: HostRuntime) -> Result<(), Fail> {
+    let cases = [
         (
-            metadata(at, MetadataActionKind::DeltaCommit, false),
-            ".hoodie/metadata/.hoodie/20250101000000000.deltacommit.inflight",
+            1,
+            MetadataActionKind::DeltaCommit,
+            false,
+            ".hoodie/metadata/.hoodie/00000000000000001.deltacommit.inflight",
         ),
         (
-            metadata(at, MetadataActionKind::DeltaCommit, true),
-            ".hoodie/metadata/.hoodie/20250101000000000.deltacommit",
+            1,
+            MetadataActionKind::DeltaCommit,
+            true,
+            ".hoodie/metadata/.hoodie/00000000000000001.deltacommit",
         ),
         (
-            metadata(zero, MetadataActionKind::Indexing, false),
+            0,
+            MetadataActionKind::Indexing,
+            false,
             ".hoodie/metadata/.hoodie/00000000000000000010.deltacommit.inflight",
         ),
         (
-            metadata(zero, MetadataActionKind::Indexing, true),
+            0,
+            MetadataActionKind::Indexing,
+            true,
             ".hoodie/metadata/.hoodie/00000000000000000010.deltacommit",
         ),
         (
-            metadata(at, MetadataActionKind::Compaction, false),
-            ".hoodie/metadata/.hoodie/20250101000000000001.compaction.inflight",
+            1,
+            MetadataActionKind::Compaction,
+            false,
+            ".hoodie/metadata/.hoodie/00000000000000001001.compaction.inflight",
         ),
         (
-            metadata(at, MetadataActionKind::Compaction, true),
-            ".hoodie/metadata/.hoodie/20250101000000000001.commit",
+            1,
+            MetadataActionKind::Compaction,
+            true,
+            ".hoodie/metadata/.hoodie/00000000000000001001.commit",
         ),
         (
-            metadata(at, MetadataActionKind::Clean, false),
-            ".hoodie/metadata/.hoodie/20250101000000000002.clean.inflight",
+            1,
+            MetadataActionKind::Clean,
+            false,
+            ".hoodie/metadata/.hoodie/00000000000000001002.clean.inflight",
         ),
         (
-            metadata(zero, MetadataActionKind::Clean, true),
+            0,
+            MetadataActionKind::Clean,
+            true,
             ".hoodie/metadata/.hoodie/00000000000000000002.clean",
         ),
-        (
-            base(Part::Files, 0, zero, BaseKind::Indexing),
-            ".hoodie/metadata/files/files-0000_00000000000000000010.hfile",
-        ),
-        (
-            base(Part::ColumnStats, 3, at, BaseKind::Compaction),
-            ".hoodie/metadata/column_stats/column_stats-0003_20250101000000000001.hfile",
-        ),
-        (
-            log(Part::BloomFilters, 2),
-            ".hoodie/metadata/bloom_filters/bloom_filters-0002_20250101000000000.log",
-        ),
-        (
-            log(Part::RecordIndex, 9999),
-            ".hoodie/metadata/record_index/record_index-9999_20250101000000000.log",
-        ),
     ];
-    for (name, text) in cases {
-        let path = Path::parse(alloc, text).ok().expect(&rt, "a path");
-        assert!(rt; ObjectName::of(&path) == Some(name), "{text}");
-        assert_eq!(rt; name.path(alloc)?.as_str(), text);
+    for (number, kind, completed, text) in cases {
+        let at = Instant::new(number).expect(&rt, "an instant");
+        stands_at(
+            &rt,
+            rt.alloc(),
+            &ObjectName::Metadata {
+                at,
+                kind,
+                completed,
+            },
+            text,
+        )?;
     }
     Ok(())
+}
+
+#[test]
+fn the_bases_and_logs_have_these_paths(rt: HostRuntime) -> Result<(), Fail> {
+    let alloc = rt.alloc();
+    let at = Instant::new(1).expect(&rt, "an instant");
+    let upto = Instant::new(0).expect(&rt, "an instant");
+    let first = ObjectName::Base {
+        part: Part::Files,
+        shard: 0,
+        upto,
+        kind: BaseKind::Indexing,
+    };
+    stands_at(
+        &rt,
+        alloc,
+        &first,
+        ".hoodie/metadata/files/files-0000_00000000000000000010.hfile",
+    )?;
+    let base = ObjectName::Base {
+        part: Part::ColumnStats,
+        shard: 3,
+        upto: at,
+        kind: BaseKind::Compaction,
+    };
+    stands_at(
+        &rt,
+        alloc,
+        &base,
+        ".hoodie/metadata/column_stats/column_stats-0003_00000000000000001001.hfile",
+    )?;
+    let log = ObjectName::Log {
+        part: Part::BloomFilters,
+        shard: 2,
+        at,
+    };
+    stands_at(
+        &rt,
+        alloc,
+        &log,
+        ".hoodie/metadata/bloom_filters/bloom_filters-0002_00000000000000001.log",
+    )?;
+    let last = ObjectName::Log {
+        part: Part::RecordIndex,
+        shard: 9999,
+        at,
+    };
+    stands_at(
+        &rt,
+        alloc,
+        &last,
+        ".hoodie/metadata/record_index/record_index-9999_00000000000000001.log",
+    )
 }
 
 #[test]

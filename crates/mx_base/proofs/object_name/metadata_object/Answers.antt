@@ -1,4 +1,3 @@
-use Rattle.std.proofs.Common.{◌∙◌, sym, None, Some}
 use Rattle.mx_base.proofs.ObjectLemmas.{metadata_undated, metadata_unread, metadata_exact, metadata_found}
 use Rattle.mx_base.proofs.object_name.metadata_object.Goals as goal
 

@@ -1,4 +1,3 @@
-use Rattle.std.proofs.Common.{◌∙◌, sym, None, Some}
 use Rattle.mx_base.proofs.ObjectLemmas.{timeline_undated, timeline_unread, timeline_exact, timeline_found}
 use Rattle.mx_base.proofs.object_name.timeline_object.Goals as goal
 

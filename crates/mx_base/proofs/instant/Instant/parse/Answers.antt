@@ -1,4 +1,4 @@
-use Rattle.std.proofs.Common.{◌≢◌, ◌∙◌, sym, ap, length, refl, arith, subst}
+use Rattle.std.proofs.Common.{◌∙◌, sym, ap, length, refl, arith, subst}
 use Rattle.mx_base.specs.Digits.{IsInstant}
 use Rattle.mx_base.proofs.Places.{length-instant, instant_text-read, IsInstant-read, IsInstant-unread}
 use Rattle.mx_base.proofs.instant.Instant.parse.Goals as goal

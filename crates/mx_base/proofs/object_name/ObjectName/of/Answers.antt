@@ -1,8 +1,7 @@
-use Rattle.std.proofs.Common.{ℕ, List, ◌≡◌, ◌≢◌, ◌++◌, nat_eq, refl, sym, ap, ◌∙◌, Some}
+use Rattle.std.proofs.Common.{ℕ, List, ◌≡◌, ◌++◌, nat_eq, refl, sym, ap, ◌∙◌, Some}
 use Rattle.std.specs.Prelude.{codes}
 use Rattle.std.specs.Cmp.Lexicographic.{same_text}
 use lib.Pointwise.{pointwise}
-use Rattle.mx_base.specs.Objects.{object_path}
 use Rattle.mx_base.specs.declared.object_name.ObjectName.{ObjectName}
 use Rattle.mx_base.proofs.ObjectLemmas.{prefixed, outside, config_at, config_only, timeline_only, metadata_only, shard_only}
 use Rattle.mx_base.proofs.object_name.ObjectName.of.Goals as goal

@@ -1,5 +1,7 @@
 use super::*;
 use mx_lists::Same;
+use std::alloc::Global;
+use std::process::Abort;
 use std::test::Fail;
 
 const LETTERS: &str = "abcdefghijklmnopqrstuvwxyz0123456789abcdefghijklmnopqrstuvwxyz0123456789";
@@ -226,6 +228,281 @@ fn a_commit_is_named_by_its_instant_above_0(rt: HostRuntime) -> Result<(), Fail>
             number,
             "{text}"
         );
+    }
+    Ok(())
+}
+
+#[test]
+fn the_index_partitions_have_these_names_and_shards(rt: HostRuntime) -> Result<(), Fail> {
+    let cases = [
+        ("files", Some((Part::Files, 1, 0))),
+        ("column_stats", Some((Part::ColumnStats, 4, 1))),
+        ("bloom_filters", Some((Part::BloomFilters, 4, 2))),
+        ("record_index", Some((Part::RecordIndex, 8, 3))),
+        ("", None),
+        ("file", None),
+        ("files ", None),
+        ("Files", None),
+        ("record-index", None),
+        ("record_index_v2", None),
+    ];
+    for (text, expected) in cases {
+        match Part::parse(text) {
+            Ok(part) => {
+                assert_eq!(rt;
+                    Some((part, part.shards(), part.place())),
+                    expected,
+                    "{text}"
+                );
+                assert_eq!(rt; part.name(), text);
+                assert!(rt; part.same(&part) && !part.is_before(part));
+                assert!(rt; Part::Files.is_before(part) == (part != Part::Files));
+            }
+            Err(BadName) => assert_eq!(rt; expected, None, "{text}"),
+        }
+    }
+    Ok(())
+}
+
+fn stands_at(rt: &impl Abort, alloc: Global, name: &ObjectName, text: &str) -> Result<(), Fail> {
+    let path = name.path(alloc)?;
+    assert_eq!(rt; path.as_str(), text);
+    let found = ObjectName::of(&path).expect(rt, text);
+    assert!(rt; found == *name, "{text}");
+    Ok(())
+}
+
+#[test]
+fn the_objects_of_the_data_timeline_have_these_paths(rt: HostRuntime) -> Result<(), Fail> {
+    let at = Instant::new(20_250_101_000_000_000).expect(&rt, "an instant");
+    let cases = [
+        (
+            ActionKind::Commit,
+            ActionState::Requested,
+            ".hoodie/20250101000000000.commit.requested",
+        ),
+        (
+            ActionKind::Commit,
+            ActionState::Inflight,
+            ".hoodie/20250101000000000.inflight",
+        ),
+        (
+            ActionKind::Commit,
+            ActionState::Completed,
+            ".hoodie/20250101000000000.commit",
+        ),
+        (
+            ActionKind::Clean,
+            ActionState::Requested,
+            ".hoodie/20250101000000000.clean.requested",
+        ),
+        (
+            ActionKind::Clean,
+            ActionState::Inflight,
+            ".hoodie/20250101000000000.clean.inflight",
+        ),
+        (
+            ActionKind::Clean,
+            ActionState::Completed,
+            ".hoodie/20250101000000000.clean",
+        ),
+        (
+            ActionKind::Rollback,
+            ActionState::Requested,
+            ".hoodie/20250101000000000.rollback.requested",
+        ),
+        (
+            ActionKind::Rollback,
+            ActionState::Inflight,
+            ".hoodie/20250101000000000.rollback.inflight",
+        ),
+        (
+            ActionKind::Rollback,
+            ActionState::Completed,
+            ".hoodie/20250101000000000.rollback",
+        ),
+        (
+            ActionKind::Indexing,
+            ActionState::Requested,
+            ".hoodie/20250101000000000.indexing.requested",
+        ),
+        (
+            ActionKind::Indexing,
+            ActionState::Inflight,
+            ".hoodie/20250101000000000.indexing.inflight",
+        ),
+        (
+            ActionKind::Indexing,
+            ActionState::Completed,
+            ".hoodie/20250101000000000.indexing",
+        ),
+    ];
+    for (kind, state, text) in cases {
+        stands_at(
+            &rt,
+            rt.alloc(),
+            &ObjectName::Timeline { at, kind, state },
+            text,
+        )?;
+    }
+    stands_at(
+        &rt,
+        rt.alloc(),
+        &ObjectName::Config,
+        ".hoodie/hoodie.properties",
+    )
+}
+
+#[test]
+fn the_objects_of_the_metadata_timeline_have_these_paths(rt: HostRuntime) -> Result<(), Fail> {
+    let cases = [
+        (
+            1,
+            MetadataActionKind::DeltaCommit,
+            false,
+            ".hoodie/metadata/.hoodie/00000000000000001.deltacommit.inflight",
+        ),
+        (
+            1,
+            MetadataActionKind::DeltaCommit,
+            true,
+            ".hoodie/metadata/.hoodie/00000000000000001.deltacommit",
+        ),
+        (
+            0,
+            MetadataActionKind::Indexing,
+            false,
+            ".hoodie/metadata/.hoodie/00000000000000000010.deltacommit.inflight",
+        ),
+        (
+            0,
+            MetadataActionKind::Indexing,
+            true,
+            ".hoodie/metadata/.hoodie/00000000000000000010.deltacommit",
+        ),
+        (
+            1,
+            MetadataActionKind::Compaction,
+            false,
+            ".hoodie/metadata/.hoodie/00000000000000001001.compaction.inflight",
+        ),
+        (
+            1,
+            MetadataActionKind::Compaction,
+            true,
+            ".hoodie/metadata/.hoodie/00000000000000001001.commit",
+        ),
+        (
+            1,
+            MetadataActionKind::Clean,
+            false,
+            ".hoodie/metadata/.hoodie/00000000000000001002.clean.inflight",
+        ),
+        (
+            0,
+            MetadataActionKind::Clean,
+            true,
+            ".hoodie/metadata/.hoodie/00000000000000000002.clean",
+        ),
+    ];
+    for (number, kind, completed, text) in cases {
+        let at = Instant::new(number).expect(&rt, "an instant");
+        stands_at(
+            &rt,
+            rt.alloc(),
+            &ObjectName::Metadata {
+                at,
+                kind,
+                completed,
+            },
+            text,
+        )?;
+    }
+    Ok(())
+}
+
+#[test]
+fn the_bases_and_logs_have_these_paths(rt: HostRuntime) -> Result<(), Fail> {
+    let alloc = rt.alloc();
+    let at = Instant::new(1).expect(&rt, "an instant");
+    let upto = Instant::new(0).expect(&rt, "an instant");
+    let first = ObjectName::Base {
+        part: Part::Files,
+        shard: 0,
+        upto,
+        kind: BaseKind::Indexing,
+    };
+    stands_at(
+        &rt,
+        alloc,
+        &first,
+        ".hoodie/metadata/files/files-0000_00000000000000000010.hfile",
+    )?;
+    let base = ObjectName::Base {
+        part: Part::ColumnStats,
+        shard: 3,
+        upto: at,
+        kind: BaseKind::Compaction,
+    };
+    stands_at(
+        &rt,
+        alloc,
+        &base,
+        ".hoodie/metadata/column_stats/column_stats-0003_00000000000000001001.hfile",
+    )?;
+    let log = ObjectName::Log {
+        part: Part::BloomFilters,
+        shard: 2,
+        at,
+    };
+    stands_at(
+        &rt,
+        alloc,
+        &log,
+        ".hoodie/metadata/bloom_filters/bloom_filters-0002_00000000000000001.log",
+    )?;
+    let last = ObjectName::Log {
+        part: Part::RecordIndex,
+        shard: 9999,
+        at,
+    };
+    stands_at(
+        &rt,
+        alloc,
+        &last,
+        ".hoodie/metadata/record_index/record_index-9999_00000000000000001.log",
+    )
+}
+
+#[test]
+fn other_paths_are_no_objects(rt: HostRuntime) -> Result<(), Fail> {
+    let alloc = rt.alloc();
+    let cases = [
+        "hoodie.properties",
+        ".hoodie/hoodie.propertie",
+        ".hoodie/00000000000000000.commit",
+        ".hoodie/2025010100000000.commit",
+        ".hoodie/202501010000000000.commit",
+        ".hoodie/20250101000000000.requested",
+        ".hoodie/20250101000000000.commit.inflight",
+        ".hoodie/20250101000000000.deltacommit",
+        ".hoodie/20250101000000000001.commit",
+        ".hoodie/metadata/20250101000000000.commit",
+        ".hoodie/metadata/.hoodie/00000000000000000.deltacommit",
+        ".hoodie/metadata/.hoodie/20250101000000000.commit",
+        ".hoodie/metadata/.hoodie/20250101000000000010.commit",
+        ".hoodie/metadata/files/files-0000_00000000000000000.log",
+        ".hoodie/metadata/files/files-0000_20250101000000000001.log",
+        ".hoodie/metadata/files/files-0000_20250101000000000.hfile",
+        ".hoodie/metadata/files/files-000_20250101000000000.log",
+        ".hoodie/metadata/files/files-00000_20250101000000000.log",
+        ".hoodie/metadata/files/column_stats-0000_20250101000000000.log",
+        ".hoodie/metadata/other/other-0000_20250101000000000.log",
+        "2024-01-01/11111111-1111-4111-8111-111111111111_0-0-0_20250101000000000.parquet",
+    ];
+    for text in cases {
+        let path = Path::parse(alloc, text).ok().expect(&rt, "a path");
+        assert!(rt; ObjectName::of(&path).is_none(), "{text}");
     }
     Ok(())
 }

@@ -1,12 +1,11 @@
 -- The texts of columns and schemas tell them apart, and which columns can begin a schema.
-use Rattle.std.proofs.Common.{◌≡◌, ◌≢◌, ℕ, ◌+◌, ◌<◌, ◌≤◌, Bool, true, false, List, [], ◌∷◌, ◌++◌, length, get_or, take, drop, map, refl, sym, ◌∙◌, ap, subst, arith, rules, All, append_assoc, length-append, Result, Ok, Err}
+use Rattle.std.proofs.Common.{◌≡◌, ◌≢◌, ℕ, ◌+◌, ◌<◌, Bool, true, false, List, [], ◌∷◌, ◌++◌, length, get_or, take, drop, map, refl, sym, ◌∙◌, ap, subst, arith, All, append_assoc, length-append, Result, Ok, Err}
 use Rattle.std.specs.Prelude.{codes, ◌==◌, ◌&&◌, ◌||◌, IfOk, not, nat_le, nat_lt, if◌then◌else◌, slice_index}
-use Rattle.std.specs.List.{list_all, list_any, slice_split, join_with_byte, IsDistinct, AllByRecursion, flat_map}
+use Rattle.std.specs.List.{list_all, list_any, IsDistinct, AllByRecursion, flat_map}
 use Rattle.std.specs.Bool.{IsTrue}
 use Rattle.std.specs.Str.{bytes_eq}
 use Rattle.std.specs.Char.{is_ascii_alphabetic}
-use Rattle.std.proofs.lemmas.Bool.{false_from_ne_true}
-use Rattle.std.proofs.lemmas.Bool.Decides.{nat_tests, Decides-eqb}
+use Rattle.std.proofs.lemmas.Bool.Decides.{Decides-eqb}
 use Rattle.std.proofs.lemmas.List.{take-map, length-map, take-append-drop, append-nil, take_more}
 use Rattle.std.proofs.lemmas.List.Folds.{list_all-append, list_all_at}
 use Rattle.std.proofs.lemmas.List.Splits.{slice_split_none, slice_split_at}
@@ -14,7 +13,7 @@ use Rattle.std.proofs.lemmas.List.Elements.{All-from_recursion}
 use Rattle.mx_schema.specs.declared.column.Column.{Column}
 use Rattle.mx_schema.specs.declared.column.ColumnKind.{ColumnKind}
 use Rattle.mx_schema.specs.declared.column.ColumnKind.TheVariants as kinds
-use Rattle.mx_schema.specs.Columns.{kind_name, mark, column_text, schema_text, is_column_byte, is_column_name, IsColumn, AreColumns, IsSchema, pieces_of, SpellColumns, IsFirstBad, SaysBad, IsOnly}
+use Rattle.mx_schema.specs.Columns.{kind_name, mark, column_text, schema_text, is_column_byte, is_column_name, IsColumn, AreColumns, IsSchema, pieces_of, IsFirstBad, SaysBad, IsOnly}
 use Rattle.mx_schema.specs.declared.error.SchemaError.{SchemaError}
 use Rattle.mx_schema.specs.declared.error.SchemaError.TheVariants as errors
 

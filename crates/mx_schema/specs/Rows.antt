@@ -1,5 +1,5 @@
 -- Which rows fit a schema.
-use Rattle.std.specs.Prelude.{◌≡◌, ◌≢◌, ℕ, ℤ, ◌<◌, ◌≤◌, Bool, true, false, IsTrue, List, ◌∷◌, length, map, All, Option, Some, None, slice_get}
+use Rattle.std.specs.Prelude.{◌≡◌, ◌≢◌, ℕ, ℤ, ◌<◌, ◌≤◌, IsTrue, List, ◌∷◌, length, map, All, Option, Some, None, slice_get}
 use Rattle.std.specs.Int.{w32}
 use Rattle.std.specs.Int.RustNames.{FitsSigned}
 use Rattle.mx_schema.specs.declared.column.Column.{Column}

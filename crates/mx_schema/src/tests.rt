@@ -1,5 +1,5 @@
 use super::*;
-use mx_lists::{Listed, Text};
+use mx_lists::{Listed, Same, Text};
 use std::alloc::{AllocError, Global};
 use std::cmp::Ordering;
 use std::test::Fail;
@@ -32,9 +32,10 @@ fn a_schema_is_columns_with_commas_between_them_and_prints_as_it_was_read(
     ];
     for (text, count) in cases {
         let schema = Schema::parse(alloc, text).ok().expect(&rt, "a schema");
-        assert_eq!(rt; schema.columns().len(), count, "{text}");
-        assert_eq!(rt; schema.print(alloc)?.as_str(), text);
-        assert_eq!(rt; schema.clone()?.print(alloc)?.as_str(), text);
+        assert_eq!(rt; schema.columns().len(), count);
+        let printed = schema.print(alloc)?;
+        assert_eq!(rt; printed.as_str(), text);
+        assert!(rt; schema.same(&schema.clone()?));
     }
     Ok(())
 }
@@ -78,103 +79,75 @@ fn a_text_that_is_no_schema_is_refused_at_its_first_bad_column(
     Ok(())
 }
 
+// A row of a text, and behind it a number, a text and how many nulls.
+fn row_of(
+    alloc: Global,
+    key: &str,
+    number: i64,
+    text: &str,
+    nulls: u32,
+) -> Result<Row, AllocError> {
+    let mut row = Listed::new(alloc);
+    row.push(RowValue::Text(Text::from_str(alloc, key)?))?;
+    row.push(RowValue::Whole(number))?;
+    row.push(RowValue::Text(Text::from_str(alloc, text)?))?;
+    for _ in 0..nulls {
+        row.push(RowValue::Null)?;
+    }
+    Ok(row)
+}
+
 #[test]
 fn a_row_is_bad_at_its_first_place_that_is_not_what_the_schema_asks_for(
     rt: HostRuntime,
 ) -> Result<(), Fail> {
     let alloc = rt.alloc();
-    let schema = Schema::parse(alloc, "f:boolean,i:int32?,n:int64,s:string")
-        .ok()
-        .expect(&rt, "a schema");
     let key = "k".repeat(alloc, 255)?;
     let long_key = "k".repeat(alloc, 256)?;
     let text = "\u{e9}".repeat(alloc, 2048)?;
     let long_text = format!(in alloc; "{text}a")?;
-    let least = Whole(-2_147_483_648);
-    let greatest = Whole(2_147_483_647);
-    let flag = Flag(true);
-    let good = [Word("k"), flag, Null, Whole(0), Word("")];
-    let cases: [(&[Shown], Option<u32>); 21] = [
-        (&good, None),
-        (
-            &[
-                Word(key.as_str()),
-                flag,
-                least,
-                Whole(i64::MIN),
-                Word(text.as_str()),
-            ],
-            None,
-        ),
-        (
-            &[
-                Word("k\u{1}"),
-                flag,
-                greatest,
-                Whole(i64::MAX),
-                Word("\u{0}"),
-            ],
-            None,
-        ),
-        (&[], Some(0)),
-        (&[Null, flag], Some(0)),
-        (&[Whole(1), flag, Null, Whole(0), Word("")], Some(0)),
-        (&[Word(""), flag, Null, Whole(0), Word("")], Some(0)),
-        (&[Word("k\u{0}"), flag, Null, Whole(0), Word("")], Some(0)),
-        (
-            &[Word(long_key.as_str()), flag, Null, Whole(0), Word("")],
-            Some(0),
-        ),
-        (&[Word("k")], Some(1)),
-        (&[Word("k"), Whole(1)], Some(1)),
-        (&[Word("k"), Null, Null, Whole(0), Word("")], Some(1)),
-        (
-            &[Word("k"), flag, Whole(-2_147_483_649), Whole(0), Word("")],
-            Some(2),
-        ),
-        (
-            &[Word("k"), flag, Whole(2_147_483_648), Whole(0), Word("")],
-            Some(2),
-        ),
-        (&[Word("k"), flag, flag, Whole(0), Word("")], Some(2)),
-        (&[Word("k"), flag, Null, Word("0"), Word(""), Null], Some(3)),
-        (&[Word("k"), flag, Null, Null, Word("")], Some(3)),
-        (&[Word("k"), flag, Null, Whole(0)], Some(4)),
-        (
-            &[Word("k"), flag, Null, Whole(0), Word(long_text.as_str())],
-            Some(4),
-        ),
-        (&[Word("k"), flag, Null, Whole(0), Whole(0)], Some(4)),
-        (&[Word("k"), flag, Null, Whole(0), Word(""), Null], Some(5)),
+    let key = key.as_str();
+    let text = text.as_str();
+    let schema = Schema::parse(alloc, "i:int32,s:string,f:boolean?")
+        .ok()
+        .expect(&rt, "a schema");
+    let cases = [
+        (key, 2_147_483_647, text, 1, None),
+        ("k\u{1}", -2_147_483_648, "\u{0}", 1, None),
+        ("", 0, "", 1, Some(0)),
+        ("k\u{0}", 0, "", 1, Some(0)),
+        (long_key.as_str(), 0, "", 2, Some(0)),
+        ("k", 2_147_483_648, "", 1, Some(1)),
+        ("k", -2_147_483_649, "", 0, Some(1)),
+        ("k", 0, long_text.as_str(), 1, Some(2)),
+        ("k", 0, "", 0, Some(3)),
+        ("k", 0, "", 2, Some(4)),
     ];
-    for (values, place) in cases {
-        let row = row_of(alloc, values)?;
-        assert_eq!(rt; schema.fits(&row), place, "{values:?}");
+    for (key, number, text, nulls, place) in cases {
+        let row = row_of(alloc, key, number, text, nulls)?;
+        assert_eq!(rt; schema.fits(&row), place, "{key} {number} {nulls}");
     }
+    assert_eq!(rt; schema.fits(&Listed::new(alloc)), Some(0));
     Ok(())
 }
 
-use Shown::{Flag, Null, Whole, Word};
-
-#[derive(Clone, Copy, Debug)]
-enum Shown<'a> {
-    Null,
-    Flag(bool),
-    Whole(i64),
-    Word(&'a str),
-}
-
-fn row_of(alloc: Global, values: &[Shown]) -> Result<Row, AllocError> {
-    let mut row = Listed::new(alloc);
-    for value in values {
-        row.push(match *value {
-            Null => RowValue::Null,
-            Flag(flag) => RowValue::Flag(flag),
-            Whole(number) => RowValue::Whole(number),
-            Word(text) => RowValue::Text(Text::from_str(alloc, text)?),
-        })?;
+#[test]
+fn a_cell_is_bad_where_its_kind_is_not_the_columns(rt: HostRuntime) -> Result<(), Fail> {
+    let alloc = rt.alloc();
+    let cases = [
+        ("i:int64,s:string,f:boolean?", None),
+        ("i:string,s:string,f:boolean?", Some(1)),
+        ("i:boolean,s:string,f:boolean?", Some(1)),
+        ("i:int64,s:int64,f:boolean?", Some(2)),
+        ("i:int64,s:boolean?,f:boolean?", Some(2)),
+        ("i:int64,s:string,f:boolean", Some(3)),
+    ];
+    let row = row_of(alloc, "k", 1, "", 1)?;
+    for (text, place) in cases {
+        let schema = Schema::parse(alloc, text).ok().expect(&rt, "a schema");
+        assert_eq!(rt; schema.fits(&row), place, "{text}");
     }
-    Ok(row)
+    Ok(())
 }
 
 #[test]

@@ -1,6 +1,5 @@
-use Rattle.std.specs.Ordering.{nat_cmp, int_cmp}
 use Rattle.std.proofs.lemmas.Cmp.{on_total, then_total, nat_cmp_total, int_cmp_total, nat_list_cmp_total}
-use Rattle.mx_schema.specs.Cells.{rank, number, bytes, cell_order}
+use Rattle.mx_schema.specs.Cells.{rank, number, bytes}
 use Rattle.mx_schema.proofs.cell.cells_are_ordered.Goals as goal
 
 pub returns : goal.returns

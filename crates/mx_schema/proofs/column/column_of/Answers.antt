@@ -1,8 +1,6 @@
-use Rattle.std.proofs.Common.{◌≡◌, ◌≢◌, ℕ, ◌<◌, Bool, List, ◌∷◌, ◌++◌, length, get_or, lit<, sym, ap, false, ◌∙◌, rules, subst, Option, Some, None}
-use Rattle.std.specs.Prelude.{MatchOption}
-use Rattle.std.proofs.lemmas.Str.Pattern.{split_after, split_parts}
-use Rattle.mx_schema.specs.declared.column.Column.{Column}
-use Rattle.mx_schema.specs.Columns.{kind_name, mark, column_text, is_column_name, IsColumn}
+use Rattle.std.proofs.Common.{◌≡◌, ◌++◌, lit<, ap, false, ◌∙◌}
+use Rattle.std.proofs.lemmas.Str.Pattern.{split_after}
+use Rattle.mx_schema.specs.Columns.{kind_name, mark, is_column_name}
 use Rattle.mx_schema.proofs.ColumnLemmas.{name_no_colon}
 use Rattle.mx_schema.proofs.column.column_of.Goals as goal
 

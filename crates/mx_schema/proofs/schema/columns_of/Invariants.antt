@@ -1,5 +1,5 @@
-use Rattle.std.proofs.Common.{◌≡◌, map, take, length}
-use Rattle.mx_schema.specs.Columns.{column_text, pieces_of, AreColumns}
+use Rattle.std.proofs.Common.{◌≡◌, map}
+use Rattle.mx_schema.specs.Columns.{column_text, AreColumns}
 use Rattle.mx_schema.proofs.schema.columns_of.Given as goal
 
 abbrev pub invariant-loop-piece : goal.invariant-loop-piece

@@ -1,4 +1,4 @@
-use Rattle.std.proofs.Common.{◌≡◌, ℕ, Bool, true, false, List, [], ◌∷◌, ◌++◌, ap, sym, ◌∙◌, rules, arith, subst}
+use Rattle.std.proofs.Common.{◌≡◌, ℕ, List, [], ◌∷◌, ◌++◌, sym, ◌∙◌, rules, subst}
 use Rattle.mx_schema.specs.declared.column.Column.{Column}
 use Rattle.mx_schema.specs.Columns.{column_text, IsColumn, AreColumns}
 use Rattle.mx_schema.proofs.ColumnLemmas.{column_text-injective, can_follow}

@@ -1,4 +1,4 @@
-use Rattle.std.proofs.Common.{◌≡◌, sym, ◌∙◌, rules}
+use Rattle.std.proofs.Common.{rules}
 use Rattle.mx_schema.proofs.ColumnLemmas.{only, same_schema}
 use Rattle.mx_schema.proofs.schema.Schema.parse.Goals as goal
 

@@ -23,41 +23,44 @@ not_true : (b : Bool) → not b ≡ true → b ≡ false
 not_true false h = refl
 not_true true h = absurd (cc h)
 
-and_second : (b c : Bool) → (b && c) ≡ true → c ≡ true
+pub and_second : (b c : Bool) → (b && c) ≡ true → c ≡ true
 and_second true c h = h
 and_second false c h = absurd (cc h)
 
-and_first : (b c : Bool) → (b && c) ≡ true → b ≡ true
+pub and_first : (b c : Bool) → (b && c) ≡ true → b ≡ true
 and_first true c h = refl
 and_first false c h = h
 
-and_both : (a b : Bool) → a ≡ true → b ≡ true → (a && b) ≡ true
+pub and_both : (a b : Bool) → a ≡ true → b ≡ true → (a && b) ≡ true
 and_both a b p q = ap (λ (v : Bool). v && b) p ∙ q
 
-last_of_four : (a b c d : Bool) → (a && (b && (c && d))) ≡ true → d ≡ true
+pub last_of_four : (a b c d : Bool) → (a && (b && (c && d))) ≡ true → d ≡ true
 last_of_four true true true d h = h
 last_of_four true true false d h = absurd (cc h)
 last_of_four true false c d h = absurd (cc h)
 last_of_four false b c d h = absurd (cc h)
 
-list_all-weaker : (p q : ℕ → Bool) → ((x : ℕ) → p x ≡ true → q x ≡ true) → (xs : List ℕ) → list_all p xs ≡ true → list_all q xs ≡ true
+pub list_all-weaker : (p q : ℕ → Bool) → ((x : ℕ) → p x ≡ true → q x ≡ true) → (xs : List ℕ) → list_all p xs ≡ true → list_all q xs ≡ true
 list_all-weaker p q weaker [] all = refl
 list_all-weaker p q weaker (x ∷ xs) all =
     and_both (q x) (list_all q xs) (weaker x (and_first (p x) (list_all p xs) all)) (list_all-weaker p q weaker xs (and_second (p x) (list_all p xs) all))
 
 -- no byte is the one
-abbrev Lacks : ℕ → List ℕ → Type 0
+abbrev pub Lacks : ℕ → List ℕ → Type 0
 Lacks byte xs = list_all (λ x. not (x == byte)) xs ≡ true
 
 not_equal : (byte x : ℕ) (b : Bool) → (x == byte) ≡ b → (x ≡ byte → ⊥) → not (x == byte) ≡ true
 not_equal byte x true is ne = absurd (ne ((Decides-eqb x byte).0 is))
 not_equal byte x false is ne = ap not is
 
-name_lacks : (byte : ℕ) → is_column_byte byte ≡ false → (name : List ℕ) → is_column_name name ≡ true → Lacks byte name
+pub name_bytes : (name : List ℕ) → is_column_name name ≡ true → list_all is_column_byte name ≡ true
 unfolding is_column_name
+name_bytes name is = last_of_four (nat_lt 0 (length name)) (nat_le (length name) 63) (is_ascii_alphabetic (slice_index name 0)) (list_all is_column_byte name) is
+
+pub name_lacks : (byte : ℕ) → is_column_byte byte ≡ false → (name : List ℕ) → is_column_name name ≡ true → Lacks byte name
 name_lacks byte other name is =
     list_all-weaker is_column_byte (λ x. not (x == byte)) (λ x h. not_equal byte x (x == byte) refl (λ e. let e' : is_column_byte byte ≡ true = subst (λ (v : ℕ). is_column_byte v ≡ true) e h in cc)) name
-    (last_of_four (nat_lt 0 (length name)) (nat_le (length name) 63) (is_ascii_alphabetic (slice_index name 0)) (list_all is_column_byte name) is)
+    (name_bytes name is)
 
 -- read one by one
 pub lacks_at : (byte : ℕ) (xs : List ℕ) → Lacks byte xs → (i : ℕ) → i < length xs → get_or xs i 0 ≢ byte
@@ -91,8 +94,11 @@ lacks_all : (byte : ℕ) (xs : List ℕ) → Lacks byte xs → AllByRecursion (�
 lacks_all byte [] lacks = tt
 lacks_all byte (x ∷ xs) lacks = (not_true (x == byte) (and_first (not (x == byte)) (list_all (λ y. not (y == byte)) xs) lacks), lacks_all byte xs (lacks_tail byte x xs lacks))
 
+pub All-lacks : (byte : ℕ) (xs : List ℕ) → Lacks byte xs → All (λ x. (x == byte) ≡ false) xs
+All-lacks byte xs lacks = All-from_recursion (λ x. (x == byte) ≡ false) xs (lacks_all byte xs lacks)
+
 no_comma : (column : Column) → IsColumn column → All (λ x. (x == 44) ≡ false) (column_text column)
-no_comma column is = All-from_recursion (λ x. (x == 44) ≡ false) (column_text column) (lacks_all 44 (column_text column) (column_lacks_comma column is))
+no_comma column is = All-lacks 44 (column_text column) (column_lacks_comma column is)
 
 no_mark : (kind : ColumnKind) → Lacks 63 (kind_name kind)
 no_mark kinds.Boolean = refl

@@ -13,6 +13,7 @@ mod file_id;
 mod grammar;
 mod instant;
 mod named;
+mod part;
 mod partition;
 mod path;
 #[cfg(test)]
@@ -21,5 +22,6 @@ mod tests;
 pub use file_id::FileId;
 pub use instant::{BadName, Instant};
 pub use named::{data_file_name, group_name};
+pub use part::Part;
 pub use partition::Partition;
 pub use path::{NameError, Path};

@@ -229,3 +229,35 @@ fn a_commit_is_named_by_its_instant_above_0(rt: HostRuntime) -> Result<(), Fail>
     }
     Ok(())
 }
+
+#[test]
+fn the_index_partitions_have_these_names_and_shards(rt: HostRuntime) -> Result<(), Fail> {
+    let cases = [
+        ("files", Some((Part::Files, 1, 0))),
+        ("column_stats", Some((Part::ColumnStats, 4, 1))),
+        ("bloom_filters", Some((Part::BloomFilters, 4, 2))),
+        ("record_index", Some((Part::RecordIndex, 8, 3))),
+        ("", None),
+        ("file", None),
+        ("files ", None),
+        ("Files", None),
+        ("record-index", None),
+        ("record_index_v2", None),
+    ];
+    for (text, expected) in cases {
+        match Part::parse(text) {
+            Ok(part) => {
+                assert_eq!(rt;
+                    Some((part, part.shards(), part.place())),
+                    expected,
+                    "{text}"
+                );
+                assert_eq!(rt; part.name(), text);
+                assert!(rt; part.same(&part) && !part.is_before(part));
+                assert!(rt; Part::Files.is_before(part) == (part != Part::Files));
+            }
+            Err(BadName) => assert_eq!(rt; expected, None, "{text}"),
+        }
+    }
+    Ok(())
+}

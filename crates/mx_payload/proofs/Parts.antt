@@ -13,8 +13,8 @@ use Rattle.mx_avro.specs.Encoding.{long_encoding, bytes_encoding}
 use Rattle.mx_avro.specs.Decoding.{long_at, bytes_at}
 use Rattle.mx_avro.proofs.Groups.{IsBytes}
 use Rattle.mx_avro.proofs.Longs.{long_again, long_takes, bytes_again, bytes_takes, bytes_len_fits}
-use Rattle.mx_payload.specs.declared.column_stat.Cell.{Cell}
-use Rattle.mx_payload.specs.declared.column_stat.Cell.TheVariants as cells
+use Rattle.mx_schema.specs.declared.cell.Cell.{Cell}
+use Rattle.mx_schema.specs.declared.cell.Cell.TheVariants as cells
 use Rattle.mx_payload.specs.Rules.{IsLong, IsText, IsCell}
 use Rattle.mx_payload.specs.Encoding.{long, flag, cell_bytes}
 use Rattle.mx_payload.specs.Decoding.{◌>>=◌, Reader, passing, behind, before_null, number_from, number_in, natural_from, natural_in, is_small, small_in, expected_in, bytes_from, bytes_in, text_in, flag_in, value_in, cell_in}

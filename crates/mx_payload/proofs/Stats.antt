@@ -4,9 +4,9 @@ use Rattle.std.proofs.lemmas.Bool.{eqb-true, ltb-true, ltb-false, lt-ltb, eq-eqb
 use Rattle.std.proofs.lemmas.Bool.Decides.{nat_tests}
 use Rattle.mx_avro.specs.Encoding.{bytes_encoding}
 use Rattle.mx_avro.proofs.Groups.{chosen}
-use Rattle.mx_payload.specs.declared.column_stat.Cell.{Cell}
-use Rattle.mx_payload.specs.declared.column_stat.Cell.TheVariants as cells
-use Rattle.mx_payload.specs.declared.column_stat.ColumnStat.{ColumnStat}
+use Rattle.mx_schema.specs.declared.cell.Cell.{Cell}
+use Rattle.mx_schema.specs.declared.cell.Cell.TheVariants as cells
+use Rattle.mx_schema.specs.declared.column_stat.ColumnStat.{ColumnStat}
 use Rattle.mx_payload.specs.Rules.{IsLong, IsCell, IsStat, IsEmptyStat, IsFilter}
 use Rattle.mx_payload.specs.Encoding.{long, flag, cell_bytes, stat_bytes}
 use Rattle.mx_payload.specs.Decoding.{is_null, empty_fields, checked_stat, Facts, facts_in, stat_of_facts, deleted_of_facts, stat_in, is_same, filter_in, instant_in}

@@ -6,9 +6,9 @@ use Rattle.std.specs.List.{slice_get}
 use Rattle.std.specs.Str.{is_utf8}
 use Rattle.mx_avro.specs.declared.error.AvroError.{AvroError}
 use Rattle.mx_avro.specs.Decoding.{long_at, bytes_at}
-use Rattle.mx_payload.specs.declared.column_stat.Cell.{Cell}
-use Rattle.mx_payload.specs.declared.column_stat.Cell.TheVariants as cells
-use Rattle.mx_payload.specs.declared.column_stat.ColumnStat.{ColumnStat}
+use Rattle.mx_schema.specs.declared.cell.Cell.{Cell}
+use Rattle.mx_schema.specs.declared.cell.Cell.TheVariants as cells
+use Rattle.mx_schema.specs.declared.column_stat.ColumnStat.{ColumnStat}
 use Rattle.mx_payload.specs.declared.payload.NameWord.{NameWord}
 use Rattle.mx_payload.specs.declared.payload.Payload.{Payload}
 use Rattle.mx_payload.specs.declared.payload.Payload.TheVariants.{Partitions, Files, Stats, Bloom, Location}

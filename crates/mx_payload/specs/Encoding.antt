@@ -2,9 +2,9 @@
 use Rattle.std.specs.Prelude.{ℕ, pos, Bool, true, false, List, [], ◌∷◌, ◌++◌, length, map}
 use Rattle.std.specs.List.{flat_map}
 use Rattle.mx_avro.specs.Encoding.{long_encoding, bytes_encoding}
-use Rattle.mx_payload.specs.declared.column_stat.Cell.{Cell}
-use Rattle.mx_payload.specs.declared.column_stat.Cell.TheVariants as cells
-use Rattle.mx_payload.specs.declared.column_stat.ColumnStat.{ColumnStat}
+use Rattle.mx_schema.specs.declared.cell.Cell.{Cell}
+use Rattle.mx_schema.specs.declared.cell.Cell.TheVariants as cells
+use Rattle.mx_schema.specs.declared.column_stat.ColumnStat.{ColumnStat}
 use Rattle.mx_payload.specs.declared.payload.NameWord.{NameWord}
 use Rattle.mx_payload.specs.declared.payload.Payload.{Payload}
 use Rattle.mx_payload.specs.declared.payload.Payload.TheVariants.{Partitions, Files, Stats, Bloom, Location}

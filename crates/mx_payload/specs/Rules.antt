@@ -7,9 +7,9 @@ use Rattle.std.specs.Int.RustNames.{FitsSigned}
 use Rattle.std.specs.Bool.{IsTrue}
 use Rattle.std.specs.Ordering.{nat_cmp, is_lt}
 use Rattle.std.specs.Cmp.Lexicographic.{slice_cmp}
-use Rattle.mx_payload.specs.declared.column_stat.Cell.{Cell}
-use Rattle.mx_payload.specs.declared.column_stat.Cell.TheVariants as cells
-use Rattle.mx_payload.specs.declared.column_stat.ColumnStat.{ColumnStat}
+use Rattle.mx_schema.specs.declared.cell.Cell.{Cell}
+use Rattle.mx_schema.specs.declared.cell.Cell.TheVariants as cells
+use Rattle.mx_schema.specs.declared.column_stat.ColumnStat.{ColumnStat}
 use Rattle.mx_payload.specs.declared.payload.NameWord.{NameWord}
 use Rattle.mx_payload.specs.declared.payload.Payload.{Payload}
 use Rattle.mx_payload.specs.declared.payload.Payload.TheVariants.{Partitions, Files, Stats, Bloom, Location}

@@ -12,7 +12,6 @@
 //! | `combine_is_associative` | payloads of one kind are combined alike in any order of the pairs |
 #![tactic(auto)]
 
-mod column_stat;
 mod error;
 mod fields;
 mod merging;
@@ -21,7 +20,6 @@ mod reading;
 mod words;
 mod writing;
 
-pub use column_stat::{Cell, ColumnStat};
 pub use error::PayloadError;
 pub use merging::{combine, combine_is_associative};
 pub use payload::{NameWord, Payload};

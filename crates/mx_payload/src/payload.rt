@@ -1,5 +1,5 @@
-use crate::column_stat::ColumnStat;
 use mx_lists::{Bytes, Listed, Text};
+use mx_schema::ColumnStat;
 
 /// A file of a partition, or that it was taken out.
 #[derive(Clone, Debug, Drop)]

@@ -5,10 +5,10 @@ ghost use Rattle.mx_payload.specs.declared.payload.Payload.TheVariants.{Partitio
 ghost use Rattle.mx_payload.specs.Rules.{IsWellFormed, IsLong, IsStat, AreWords, plain};
 ghost use Rattle.mx_payload.specs.Encoding.{long, flag, cell_bytes, word, word_map, stat_bytes, column_bytes, place_bytes, absent, encoding};
 
-use crate::column_stat::{Cell, ColumnStat};
 use crate::payload::{NameWord, Payload};
 use mx_avro::{put_bytes, put_long};
 use mx_lists::Text;
+use mx_schema::{Cell, ColumnStat};
 use std::alloc::{AllocError, Global};
 
 /// The one spelling of a payload.

@@ -1,14 +1,4 @@
-use mx_lists::Text;
-
-/// A cell of a row.
-#[derive(Clone, Debug, Drop)]
-pub enum Cell {
-    Null,
-    Flag(bool),
-    Small(i32),
-    Whole(i64),
-    Text(Text),
-}
+use crate::cell::Cell;
 
 /// What is known of one column of a file: its bounds, and how many cells and bytes it has.
 #[derive(Clone, Debug, Drop)]

@@ -1,0 +1,4 @@
+pub mod Texts
+pub mod PartLemmas
+pub mod LineLemmas
+pub mod ConfigLemmas

@@ -7,11 +7,28 @@
 #![tactic(auto)]
 
 mod added;
+mod checking;
 mod commit_meta;
+mod compact_plan;
+mod drop_list;
+mod error;
 mod fields;
+mod index_plan;
 mod line;
+mod names;
+mod parts;
+mod path_list;
+mod paths;
+mod rising;
+mod rollback_plan;
 #[cfg(test)]
 mod tests;
 
 pub use added::{AddedFile, AddedLog};
 pub use commit_meta::{CommitMeta, PartitionStats, WriteStat};
+pub use compact_plan::CompactPlan;
+pub use drop_list::DropList;
+pub use error::MetaError;
+pub use index_plan::IndexPlan;
+pub use path_list::PathList;
+pub use rollback_plan::RollbackPlan;

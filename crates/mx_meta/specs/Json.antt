@@ -45,7 +45,7 @@ abbrev pub number_in : Data → Option ℕ
 number_in d = option_and_then as_u64 (as_number d)
 
 -- a whole number from 0 to 2^63 - 1
-abbrev pub count_in : Data → Option ℕ
+unfoldable pub count_in : Data → Option ℕ
 count_in d = option_and_then (λ n. if nat_lt n (2 ^ 63) then Some n else None) (number_in d)
 
 -- what passes a test

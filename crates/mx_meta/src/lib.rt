@@ -21,6 +21,7 @@ mod path_list;
 mod paths;
 mod rising;
 mod rollback_plan;
+mod stats;
 #[cfg(test)]
 mod tests;
 

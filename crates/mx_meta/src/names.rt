@@ -1,9 +1,11 @@
 ghost use Rattle.std.specs.Prelude.{◌≡◌, ◌<◌, IfSome};
 ghost use Rattle.serde_json.specs.View.{view};
-ghost use Rattle.mx_meta.specs.Json.{field_in, instant_in, some_instant_in, part_in};
+ghost use Rattle.mx_base.specs.Names.{is_file_id};
+ghost use Rattle.mx_base.specs.Paths.{instant_of};
+ghost use Rattle.mx_meta.specs.Json.{field_in, instant_in, some_instant_in, part_in, text_in};
 
 use crate::fields::text_field;
-use mx_base::{Instant, Part};
+use mx_base::{FileId, Instant, Part};
 use serde_json::Value;
 
 /// The instant that a field is.
@@ -12,9 +14,16 @@ pub fn instant_field(value: &Value, name: &str) -> Option<Instant>
     ensures { result ≡ field_in instant_in name.now (view value.now) }
 {
     let text = text_field(value, name)?;
+    instant(text)
+}
+
+/// The instant that a text is.
+pub fn instant(text: &str) -> Option<Instant>
+    ensures { result ≡ instant_of text.now }
+{
     match Instant::parse(text) {
         Ok(at) => {
-            // Callers know of the number that it fits by this call alone.
+            // Only this call says that the number fits.
             prove!(at.number() <= 99_999_999_999_999_999);
             Some(at)
         }
@@ -30,6 +39,17 @@ pub fn some_instant_field(value: &Value, name: &str) -> Option<Instant>
 {
     let at = instant_field(value, name)?;
     if at.number() > 0 { Some(at) } else { None }
+}
+
+/// The file id that a field is.
+pub fn file_id_field(value: &Value, name: &str) -> Option<FileId>
+    ensures { result ≡ field_in (text_in is_file_id) name.now (view value.now) }
+{
+    let text = text_field(value, name)?;
+    match FileId::parse(text) {
+        Ok(id) => Some(id),
+        Err(_) => None,
+    }
 }
 
 /// The index partition that a field is.

@@ -81,6 +81,16 @@ fn each_path(alloc: Global, items: &[Value]) -> Result<Option<Listed<Path>>, All
     Ok(Some(paths))
 }
 
+/// The path that a field is.
+pub fn path_field(alloc: Global, value: &Value, name: &str) -> Result<Option<Path>, AllocError>
+    ensures { IfOk result (λ path. path ≡ field_in (text_in is_path) name.now (view value.now)) }
+{
+    match value.get(name) {
+        Some(value) => path_in(alloc, value),
+        None => Ok(None),
+    }
+}
+
 fn path_in(alloc: Global, value: &Value) -> Result<Option<Path>, AllocError>
     ensures { IfOk result (λ path. path ≡ text_in is_path (view value.now)) }
 {

@@ -1,6 +1,7 @@
 ghost use Rattle.std.specs.Prelude.{◌≡◌, Bool};
 ghost use Rattle.mx_meta.specs.Rising.{is_rising, bytes_below, part_below};
 
+use crate::WriteStat;
 use mx_base::{Part, Path};
 
 /// What stands in lists in a strict order.
@@ -25,6 +26,18 @@ impl Rises for Part {
 
     fn is_below(&self, other: &Part) -> bool {
         self.place() < other.place()
+    }
+}
+
+impl Rises for WriteStat {
+    ghost use Rattle.mx_meta.specs.CommitText.{stat_below};
+
+    ghost below = { stat_below };
+
+    fn is_below(&self, other: &WriteStat) -> bool {
+        let first = self.file_id.print();
+        let second = other.file_id.print();
+        first.as_slice().cmp(second.as_slice()).is_lt()
     }
 }
 

@@ -19,6 +19,8 @@ mod names;
 mod parts;
 mod path_list;
 mod paths;
+#[cfg(test)]
+mod reading_tests;
 mod rising;
 mod rollback_plan;
 mod stats;

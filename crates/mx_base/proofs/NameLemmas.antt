@@ -74,10 +74,10 @@ IsAscii-named text named = IsAscii-from_all text (All-weaker (λ b. is_name_byte
 named_no_slash : (byte : ℕ) → is_name_byte byte ≡ true → (byte == 47) ≡ false
 named_no_slash byte named = false_from_ne_true (byte == 47) (λ same. absurd (cc (subst (λ (b : ℕ). is_name_byte b ≡ true) ((Decides-eqb byte 47).0 same) named)))
 
-no_slash : (text : List ℕ) → list_all is_name_byte text ≡ true → All (λ b. (b == 47) ≡ false) text
+pub no_slash : (text : List ℕ) → list_all is_name_byte text ≡ true → All (λ b. (b == 47) ≡ false) text
 no_slash text named = All-weaker (λ b. is_name_byte b ≡ true) (λ b. (b == 47) ≡ false) named_no_slash text (AllPass-from_list_all is_name_byte text named)
 
-both : (p q : Bool) → p ≡ true → q ≡ true → (p && q) ≡ true
+pub both : (p q : Bool) → p ≡ true → q ≡ true → (p && q) ≡ true
 both true q here there = there
 both false q here there = absurd (cc here)
 
@@ -95,7 +95,7 @@ named-append a b here there = list_all-append is_name_byte a b ∙ both (list_al
 digit_named : (d : ℕ) → d < 10 → is_name_byte (48 + d) ≡ true
 digit_named d small = grind (arith, nat_tests)
 
-digits_named : (k n : ℕ) → list_all is_name_byte (digits k n) ≡ true
+pub digits_named : (k n : ℕ) → list_all is_name_byte (digits k n) ≡ true
 digits_named zero n = refl
 digits_named (suc k) n = named-append (digits k (n / 10)) ((48 + n % 10) ∷ []) (digits_named k (n / 10)) (both (is_name_byte (48 + n % 10)) true (digit_named (n % 10) (omega arith)) refl)
 
@@ -115,7 +115,7 @@ IsAscii-file_id text is = IsAscii-named text (named-file_id text is)
 
 -- ---- segments
 
-le_true : (n m : ℕ) → n ≤ m → nat_le n m ≡ true
+pub le_true : (n m : ℕ) → n ≤ m → nat_le n m ≡ true
 le_true n m h = grind (arith, nat_tests)
 
 lt_true : (n m : ℕ) → n < m → nat_lt n m ≡ true
@@ -127,7 +127,7 @@ le_from_true n m h = grind (arith, nat_tests)
 differs : (a b : List ℕ) → a ≢ b → not (bytes_eq a b) ≡ true
 differs a b apart = ap not (false_from_ne_true (bytes_eq a b) (λ same. apart ((bytes_eq-Decides a b).0 same)))
 
-long_segment : (text : List ℕ) → 2 < length text → length text ≤ 255 → list_all is_name_byte text ≡ true → is_segment text ≡ true
+pub long_segment : (text : List ℕ) → 2 < length text → length text ≤ 255 → list_all is_name_byte text ≡ true → is_segment text ≡ true
 unfolding is_segment
 long_segment text long short named =
     both (nat_lt 0 (length text)) _ (lt_true 0 (length text) (omega arith))
@@ -137,7 +137,7 @@ long_segment text long short named =
     (differs text (codes "..") (λ same. absurd (omega (arith, ap length same)))))))
 
 -- the segments of a text without `/`
-last_segment : (text : List ℕ) → list_all is_name_byte text ≡ true → is_segment text ≡ true → list_all is_segment (slice_split (λ byte. byte == 47) text) ≡ true
+pub last_segment : (text : List ℕ) → list_all is_name_byte text ≡ true → is_segment text ≡ true → list_all is_segment (slice_split (λ byte. byte == 47) text) ≡ true
 last_segment text named is = ap (list_all is_segment) (slice_split_none (λ byte. byte == 47) text (no_slash text named)) ∙ both (is_segment text) true is refl
 
 pub IsPath-commit_path : (t : ℕ) → IsPath (commit_path t)

@@ -13,7 +13,7 @@ use Rattle.mx_base.specs.Digits.{digits, instant_text, IsInstant}
 use Rattle.mx_base.specs.Paths.{commit_path, files_log_path, data_file_name, data_path, number_of, name_instant, instant_of, commit_instant}
 use Rattle.mx_base.proofs.Places.{length-instant}
 
-number_of_digits : (k n : ℕ) → n < 10 ^ k → number_of (digits k n) ≡ n
+pub number_of_digits : (k n : ℕ) → n < 10 ^ k → number_of (digits k n) ≡ n
 number_of_digits zero n small = omega (arith, small)
 number_of_digits (suc k) n small =
     let less : n / 10 < 10 ^ k = omega (arith, small, pow-suc 10 k) in

@@ -71,3 +71,15 @@ printed_all p rest n out is h = subst (λ (i : ℕ). digits i rest ++ drop i out
 pub starts : (n : ℕ) (out : List ℕ) → length out ≡ 17 → digits 17 n ++ drop 17 out ≡ instant_text n
 unfolding instant_text
 starts n out len = ap (λ (l : List ℕ). digits 17 n ++ l) (drop_all 17 out (omega (arith, len))) ∙ append-nil (digits 17 n)
+
+-- what seventeen bytes that were read are
+pub instant_text-read : (n : ℕ) (bytes : List ℕ) → length bytes ≡ 17 → bytes ≡ digits (length bytes) n → bytes ≡ instant_text n
+unfolding instant_text
+instant_text-read n bytes len is = is ∙ ap (λ (k : ℕ). digits k n) len
+
+pub IsInstant-read : (n : ℕ) (bytes : List ℕ) → length bytes ≡ 17 → n < 10 ^ length bytes → bytes ≡ digits (length bytes) n → IsInstant bytes
+IsInstant-read n bytes len small is = (n, subst (λ (k : ℕ). n < 10 ^ k) len small, instant_text-read n bytes len is)
+
+pub IsInstant-unread : (bytes : List ℕ) → length bytes ≡ 17 → ((n : ℕ) → bytes ≡ digits (length bytes) n → ⊥) → IsInstant bytes → ⊥
+unfolding instant_text
+IsInstant-unread bytes len never is = never is.0 (is.2 ∙ ap (λ (k : ℕ). digits k is.0) (sym len))

@@ -3,6 +3,7 @@ ghost use Rattle.std.specs.Option.{SomeIff};
 ghost use Rattle.mx_base.specs.Digits.{instant_text, IsInstant};
 
 use crate::ascii::ascii_text;
+use crate::digits::read_digits;
 use mx_lists::Text;
 use std::alloc::{AllocError, Global};
 use std::marker::Model;
@@ -40,6 +41,13 @@ impl Instant {
         Some(Instant { number })
     }
 
+    pub(crate) fn of_number(number: u64) -> Instant
+        requires { number < 10 ^ 17 }
+        ensures { result ≡ number }
+    {
+        Instant { number }
+    }
+
     /// The instant after it, where it is not the greatest.
     pub fn next(self) -> Option<Instant>
         ensures { SomeIff result (self + 1 < 10 ^ 17) (self + 1) }
@@ -64,15 +72,10 @@ impl Instant {
         if bytes.len() != 17 {
             return Err(BadName);
         }
-        let mut number = 0u64;
-        for byte in bytes {
-            let byte = *byte;
-            if byte < b'0' || byte > b'9' {
-                return Err(BadName);
-            }
-            number = number * 10 + (byte - b'0') as u64;
+        match read_digits(bytes) {
+            Some(number) => Ok(Instant { number }),
+            None => Err(BadName),
         }
-        Ok(Instant { number })
     }
 
     /// Its seventeen digits.

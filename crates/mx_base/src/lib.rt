@@ -9,19 +9,26 @@
 #![tactic(auto)]
 
 mod ascii;
+mod digits;
+mod endings;
 mod file_id;
 mod grammar;
 mod instant;
 mod named;
+mod object_name;
 mod part;
 mod partition;
 mod path;
+mod splits;
 #[cfg(test)]
 mod tests;
 
 pub use file_id::FileId;
 pub use instant::{BadName, Instant};
 pub use named::{data_file_name, group_name};
+pub use object_name::{
+    ActionKind, ActionState, BaseKind, MetadataActionKind, ObjectName, path_has_one_name,
+};
 pub use part::Part;
 pub use partition::Partition;
 pub use path::{NameError, Path};

@@ -1,4 +1,5 @@
-ghost use Rattle.std.specs.Prelude.{◌≡◌, ◌↔◌, IfOk, IsErrOf, IsTrue, Some, refl};
+ghost use Rattle.std.specs.Prelude.{◌≡◌, ◌↔◌, IfOk, IsErrOf, IsTrue, Some, codes, refl, ◌++◌};
+ghost use Rattle.mx_base.specs.Digits.{instant_text};
 ghost use Rattle.mx_base.specs.Names.{IsPath};
 ghost use Rattle.mx_base.specs.Paths as paths;
 ghost use Rattle.mx_base.specs.declared.path.NameError.TheVariants.{BadName, NoMemory};
@@ -112,6 +113,32 @@ impl Path {
             Ok(at) if at.number() > 0 => Some(at),
             _ => None,
         }
+    }
+
+    /// The path of the config.
+    pub fn of_config(alloc: Global) -> Result<Path, AllocError>
+        ensures { IfOk result (λ p. p ≡ codes ".hoodie/hoodie.properties") }
+    {
+        Ok(Path {
+            text: String::from_str(alloc, ".hoodie/hoodie.properties")?,
+        })
+    }
+
+    /// The path that a front, an instant and an ending make.
+    pub(crate) fn joined(
+        alloc: Global,
+        front: &str,
+        at: Instant,
+        ending: &str,
+    ) -> Result<Path, AllocError>
+        requires { IsPath (front.now ++ (instant_text at ++ ending.now)) }
+        ensures { IfOk result (λ p. p ≡ front.now ++ (instant_text at ++ ending.now)) }
+    {
+        let digits = at.print();
+        let digits = ascii_text(&digits);
+        Ok(Path {
+            text: format!(in alloc; "{front}{digits}{ending}")?,
+        })
     }
 
     /// Its text.

@@ -261,3 +261,172 @@ fn the_index_partitions_have_these_names_and_shards(rt: HostRuntime) -> Result<(
     }
     Ok(())
 }
+
+#[test]
+fn each_object_has_its_path_and_no_other(rt: HostRuntime) -> Result<(), Fail> {
+    let alloc = rt.alloc();
+    let at = Instant::new(20_250_101_000_000_000).expect(&rt, "an instant");
+    let zero = Instant::new(0).expect(&rt, "an instant");
+    let (commit, clean, rollback, indexing) = (
+        ActionKind::Commit,
+        ActionKind::Clean,
+        ActionKind::Rollback,
+        ActionKind::Indexing,
+    );
+    let (requested, inflight, completed) = (
+        ActionState::Requested,
+        ActionState::Inflight,
+        ActionState::Completed,
+    );
+    let timeline = |kind, state| ObjectName::Timeline { at, kind, state };
+    let metadata = |at, kind, completed| ObjectName::Metadata {
+        at,
+        kind,
+        completed,
+    };
+    let base = |part, shard, upto, kind| ObjectName::Base {
+        part,
+        shard,
+        upto,
+        kind,
+    };
+    let log = |part, shard| ObjectName::Log { part, shard, at };
+    let cases = [
+        (ObjectName::Config, ".hoodie/hoodie.properties"),
+        (
+            timeline(commit, requested),
+            ".hoodie/20250101000000000.commit.requested",
+        ),
+        (
+            timeline(commit, inflight),
+            ".hoodie/20250101000000000.inflight",
+        ),
+        (
+            timeline(commit, completed),
+            ".hoodie/20250101000000000.commit",
+        ),
+        (
+            timeline(clean, requested),
+            ".hoodie/20250101000000000.clean.requested",
+        ),
+        (
+            timeline(clean, inflight),
+            ".hoodie/20250101000000000.clean.inflight",
+        ),
+        (
+            timeline(clean, completed),
+            ".hoodie/20250101000000000.clean",
+        ),
+        (
+            timeline(rollback, requested),
+            ".hoodie/20250101000000000.rollback.requested",
+        ),
+        (
+            timeline(rollback, inflight),
+            ".hoodie/20250101000000000.rollback.inflight",
+        ),
+        (
+            timeline(rollback, completed),
+            ".hoodie/20250101000000000.rollback",
+        ),
+        (
+            timeline(indexing, requested),
+            ".hoodie/20250101000000000.indexing.requested",
+        ),
+        (
+            timeline(indexing, inflight),
+            ".hoodie/20250101000000000.indexing.inflight",
+        ),
+        (
+            timeline(indexing, completed),
+            ".hoodie/20250101000000000.indexing",
+        ),
+        (
+            metadata(at, MetadataActionKind::DeltaCommit, false),
+            ".hoodie/metadata/.hoodie/20250101000000000.deltacommit.inflight",
+        ),
+        (
+            metadata(at, MetadataActionKind::DeltaCommit, true),
+            ".hoodie/metadata/.hoodie/20250101000000000.deltacommit",
+        ),
+        (
+            metadata(zero, MetadataActionKind::Indexing, false),
+            ".hoodie/metadata/.hoodie/00000000000000000010.deltacommit.inflight",
+        ),
+        (
+            metadata(zero, MetadataActionKind::Indexing, true),
+            ".hoodie/metadata/.hoodie/00000000000000000010.deltacommit",
+        ),
+        (
+            metadata(at, MetadataActionKind::Compaction, false),
+            ".hoodie/metadata/.hoodie/20250101000000000001.compaction.inflight",
+        ),
+        (
+            metadata(at, MetadataActionKind::Compaction, true),
+            ".hoodie/metadata/.hoodie/20250101000000000001.commit",
+        ),
+        (
+            metadata(at, MetadataActionKind::Clean, false),
+            ".hoodie/metadata/.hoodie/20250101000000000002.clean.inflight",
+        ),
+        (
+            metadata(zero, MetadataActionKind::Clean, true),
+            ".hoodie/metadata/.hoodie/00000000000000000002.clean",
+        ),
+        (
+            base(Part::Files, 0, zero, BaseKind::Indexing),
+            ".hoodie/metadata/files/files-0000_00000000000000000010.hfile",
+        ),
+        (
+            base(Part::ColumnStats, 3, at, BaseKind::Compaction),
+            ".hoodie/metadata/column_stats/column_stats-0003_20250101000000000001.hfile",
+        ),
+        (
+            log(Part::BloomFilters, 2),
+            ".hoodie/metadata/bloom_filters/bloom_filters-0002_20250101000000000.log",
+        ),
+        (
+            log(Part::RecordIndex, 9999),
+            ".hoodie/metadata/record_index/record_index-9999_20250101000000000.log",
+        ),
+    ];
+    for (name, text) in cases {
+        let path = Path::parse(alloc, text).ok().expect(&rt, "a path");
+        assert!(rt; ObjectName::of(&path) == Some(name), "{text}");
+        assert_eq!(rt; name.path(alloc)?.as_str(), text);
+    }
+    Ok(())
+}
+
+#[test]
+fn other_paths_are_no_objects(rt: HostRuntime) -> Result<(), Fail> {
+    let alloc = rt.alloc();
+    let cases = [
+        "hoodie.properties",
+        ".hoodie/hoodie.propertie",
+        ".hoodie/00000000000000000.commit",
+        ".hoodie/2025010100000000.commit",
+        ".hoodie/202501010000000000.commit",
+        ".hoodie/20250101000000000.requested",
+        ".hoodie/20250101000000000.commit.inflight",
+        ".hoodie/20250101000000000.deltacommit",
+        ".hoodie/20250101000000000001.commit",
+        ".hoodie/metadata/20250101000000000.commit",
+        ".hoodie/metadata/.hoodie/00000000000000000.deltacommit",
+        ".hoodie/metadata/.hoodie/20250101000000000.commit",
+        ".hoodie/metadata/.hoodie/20250101000000000010.commit",
+        ".hoodie/metadata/files/files-0000_00000000000000000.log",
+        ".hoodie/metadata/files/files-0000_20250101000000000001.log",
+        ".hoodie/metadata/files/files-0000_20250101000000000.hfile",
+        ".hoodie/metadata/files/files-000_20250101000000000.log",
+        ".hoodie/metadata/files/files-00000_20250101000000000.log",
+        ".hoodie/metadata/files/column_stats-0000_20250101000000000.log",
+        ".hoodie/metadata/other/other-0000_20250101000000000.log",
+        "2024-01-01/11111111-1111-4111-8111-111111111111_0-0-0_20250101000000000.parquet",
+    ];
+    for text in cases {
+        let path = Path::parse(alloc, text).ok().expect(&rt, "a path");
+        assert!(rt; ObjectName::of(&path).is_none(), "{text}");
+    }
+    Ok(())
+}

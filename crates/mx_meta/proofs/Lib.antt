@@ -5,3 +5,5 @@ pub mod FieldLemmas
 pub mod PathListLemmas
 pub mod NameLemmas
 pub mod PlanLemmas
+pub mod PlaceLemmas
+pub mod ShardFileLemmas

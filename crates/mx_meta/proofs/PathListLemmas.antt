@@ -38,11 +38,11 @@ pub texts_depth : {X : Type 0} (text_of : X → List ℕ) (xs : List X) → item
 texts_depth text_of [] = omega arith
 texts_depth text_of (x ∷ xs) = omega (arith, texts_depth text_of xs)
 
-paths_no_float : (paths : List (List ℕ)) → has_float (paths_data paths) ≡ false
+pub paths_no_float : (paths : List (List ℕ)) → has_float (paths_data paths) ≡ false
 unfolding paths_data
 paths_no_float paths = texts_no_float (λ path. path) paths
 
-paths_depth : (paths : List (List ℕ)) → depth (paths_data paths) ≤ 1
+pub paths_depth : (paths : List (List ℕ)) → depth (paths_data paths) ≤ 1
 unfolding paths_data
 paths_depth paths = omega (arith, texts_depth (λ (path : List ℕ). path) paths)
 

@@ -7,3 +7,5 @@ pub mod CommitText
 pub mod AddedText
 pub mod PathLists
 pub mod Plans
+pub mod Places
+pub mod ShardFiles

@@ -11,3 +11,8 @@ pub record Rollback : Type 0 where
 pub record Compaction : Type 0 where
   pub parts : List Part
   pub upto : ℕ
+
+-- bases that have everything up to an instant
+pub record Bases : Type 0 where
+  pub bases : List (List ℕ)
+  pub upto : ℕ

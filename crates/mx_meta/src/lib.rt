@@ -7,9 +7,11 @@
 #![tactic(auto)]
 
 mod added;
+mod base_meta;
 mod checking;
 mod commit_meta;
 mod compact_plan;
+mod delta_meta;
 mod drop_list;
 mod error;
 mod fields;
@@ -19,19 +21,24 @@ mod names;
 mod parts;
 mod path_list;
 mod paths;
+mod places;
 #[cfg(test)]
 mod reading_tests;
 mod rising;
 mod rollback_plan;
+mod shard_files;
 mod stats;
 #[cfg(test)]
 mod tests;
 
 pub use added::{AddedFile, AddedLog};
+pub use base_meta::BaseMeta;
 pub use commit_meta::{CommitMeta, PartitionStats, WriteStat};
 pub use compact_plan::CompactPlan;
+pub use delta_meta::DeltaMeta;
 pub use drop_list::DropList;
 pub use error::MetaError;
 pub use index_plan::IndexPlan;
 pub use path_list::PathList;
+pub use places::{Place, ShardFile};
 pub use rollback_plan::RollbackPlan;

@@ -1,7 +1,7 @@
 ghost use Rattle.std.specs.Prelude.{◌≡◌, Bool};
 ghost use Rattle.mx_meta.specs.Rising.{is_rising, bytes_below, part_below};
 
-use crate::WriteStat;
+use crate::{Place, WriteStat};
 use mx_base::{Part, Path};
 
 /// What stands in lists in a strict order.
@@ -38,6 +38,20 @@ impl Rises for WriteStat {
         let first = self.file_id.print();
         let second = other.file_id.print();
         first.as_slice().cmp(second.as_slice()).is_lt()
+    }
+}
+
+impl Rises for Place {
+    ghost use Rattle.mx_meta.specs.Places.{place_below};
+
+    ghost below = { place_below };
+
+    fn is_below(&self, other: &Place) -> bool {
+        if self.part.place() == other.part.place() {
+            self.shard < other.shard
+        } else {
+            self.part.is_below(&other.part)
+        }
     }
 }
 

@@ -15,9 +15,9 @@ use Rattle.std.proofs.lemmas.Slice.Eq.{bytes_eq-Decides}
 use Rattle.serde_json.specs.Data.{Data, null, boolean, number, string, array, object, Members, no_members, member}
 use Rattle.serde_json.specs.Find.{get, get_member, as_object}
 use Rattle.serde_json.specs.Read.{read}
-use Rattle.serde_json.specs.View.{view, members_view}
+use Rattle.serde_json.specs.View.{members_view}
 use Rattle.serde_json.specs.declared.value.Value.{Value}
-use Rattle.mx_meta.specs.Json.{names_of, with_names}
+use Rattle.mx_meta.specs.Json.{names_of}
 use Rattle.mx_meta.specs.Fields.{Field, with_fields, is_bad, IsFault, object_of}
 use Rattle.mx_meta.specs.Rising.{rises_from, is_rising, bytes_below}
 use Rattle.mx_meta.specs.Walk.{first_bad}

@@ -1,5 +1,5 @@
 -- The log or base of a path is the one that the code finds.
-use Rattle.std.proofs.Common.{◌≡◌, ℕ, ◌+◌, ◌-◌, ◌<◌, ◌^◌, Bool, true, false, List, [], ◌∷◌, ◌++◌, ◌⊎◌, inl, inr, length, take, drop, map, Option, Some, None, refl, sym, ap, ◌∙◌, subst, append_assoc, length-append, take_at, drop_at, arith}
+use Rattle.std.proofs.Common.{◌≡◌, ℕ, ◌+◌, ◌<◌, ◌^◌, Bool, true, false, List, [], ◌∷◌, ◌++◌, ◌⊎◌, inl, inr, length, take, map, Option, Some, None, refl, sym, ap, ◌∙◌, subst, append_assoc, length-append, take_at, drop_at, arith}
 use Rattle.std.specs.Prelude.{codes, cond, is_some, IfSome, ◌&&◌, nat_lt, option_and_then}
 use Rattle.std.specs.List.{find}
 use Rattle.std.specs.Str.{bytes_eq}
@@ -16,7 +16,6 @@ use Rattle.mx_base.specs.declared.part.Part.{Part}
 use Rattle.mx_base.specs.declared.part.Part.TheVariants.{Files, ColumnStats, BloomFilters, RecordIndex}
 use Rattle.mx_base.proofs.Places.{length-digits, length-instant}
 use Rattle.mx_base.proofs.PathLemmas.{number_of_digits}
-use Rattle.mx_meta.specs.declared.places.Place.{Place}
 use Rattle.mx_meta.specs.declared.places.ShardFile.{ShardFile}
 use Rattle.mx_meta.specs.declared.places.ShardFile.TheVariants.{Log, Base}
 use Rattle.mx_meta.specs.Places.{number_at, names_at, shard_object, place_in, place_of}

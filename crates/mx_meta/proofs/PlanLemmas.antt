@@ -1,7 +1,7 @@
 -- Plans for index partitions have no float, nest little, and read back.
-use Rattle.std.proofs.Common.{◌≡◌, ℕ, ◌≤◌, ◌<◌, ◌^◌, Bool, true, false, List, [], ◌∷◌, map, Result, Option, Some, None, refl, sym, ap, ◌∙◌, arith}
-use Rattle.std.specs.Prelude.{codes, IsUtf8, IfOk, if◌then◌else◌, option_map, option_and_then}
-use Rattle.serde_json.specs.Data.{Data, string, array, depth, items_depth}
+use Rattle.std.proofs.Common.{◌≡◌, ℕ, ◌≤◌, ◌<◌, ◌^◌, Bool, true, false, List, map, Result, Some, None, refl, ap, ◌∙◌, arith}
+use Rattle.std.specs.Prelude.{IsUtf8, IfOk, if◌then◌else◌}
+use Rattle.serde_json.specs.Data.{Data, string, array, depth}
 use Rattle.serde_json.specs.Read.{read}
 use Rattle.serde_json.specs.Written.{has_float, items_have_float}
 use Rattle.serde_json.specs.View.{items_of}

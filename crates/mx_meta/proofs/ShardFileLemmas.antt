@@ -1,6 +1,6 @@
 -- Objects that name logs or bases have no float, nest little, and read back.
-use Rattle.std.proofs.Common.{◌≡◌, ℕ, ◌≤◌, ◌<◌, ◌^◌, Bool, true, false, List, [], ◌∷◌, Result, Option, Some, None, All, refl, sym, ap, ◌∙◌, arith}
-use Rattle.std.specs.Prelude.{codes, IsUtf8, IfOk, if◌then◌else◌, option_map, option_and_then}
+use Rattle.std.proofs.Common.{◌≡◌, ℕ, ◌≤◌, ◌<◌, ◌^◌, Bool, true, false, List, Result, Some, None, All, refl, ap, ◌∙◌, arith}
+use Rattle.std.specs.Prelude.{IsUtf8, IfOk, if◌then◌else◌}
 use Rattle.serde_json.specs.Data.{Data, string, depth}
 use Rattle.serde_json.specs.Read.{read}
 use Rattle.serde_json.specs.Written.{has_float}

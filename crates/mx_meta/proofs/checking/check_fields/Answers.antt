@@ -1,4 +1,4 @@
-use Rattle.std.proofs.Common.{◌≡◌, rules}
+use Rattle.std.proofs.Common.{rules}
 use Rattle.serde_json.specs.View.{view, members_view}
 use Rattle.mx_meta.specs.Walk.{fields_shown}
 use Rattle.mx_meta.proofs.FieldLemmas.{all_good, not_good, its_fault}

@@ -1,4 +1,3 @@
-use Rattle.std.proofs.Common.{◌≡◌, rules}
 use Rattle.mx_meta.proofs.FieldLemmas.{names_sorted}
 use Rattle.mx_meta.proofs.checking.first_bad.Goals as goal
 

@@ -2,8 +2,15 @@
 //!
 //! | call | contract |
 //! |---|---|
-//! | `CommitMeta::print` | the one text of the object, which reads back (`specs/CommitText.antt`) |
+//! | `CommitMeta::print`, `read` | the one text of the object, which reads back; the object that bytes spell, else the least bad field (`specs/CommitText.antt`) |
+//! | `PathList`, `DropList`, `RollbackPlan` | likewise (`specs/PathLists.antt`) |
+//! | `IndexPlan`, `CompactPlan` | likewise (`specs/Plans.antt`) |
+//! | `DeltaMeta`, `BaseMeta` | likewise (`specs/ShardFiles.antt`) |
+//! | `new` of those with a rule | the object, exactly where its rule holds |
 //! | `AddedLog::print`, `read` | the files that a commit adds, exact both ways (`specs/AddedText.antt`) |
+//!
+//! Which field a refusal names: `specs/Fields.antt`. Invariants: a `RollbackPlan` has an instant other than 0, and
+//! lists that have an order stand in it.
 #![tactic(auto)]
 
 mod added;

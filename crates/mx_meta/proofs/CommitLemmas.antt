@@ -1,6 +1,6 @@
 -- A commit's object has no float, nests little, and reads back.
-use Rattle.std.proofs.Common.{◌≡◌, ℕ, ◌≤◌, ◌<◌, ◌^◌, ◌+◌, Bool, true, false, List, [], ◌∷◌, ◌++◌, length, take, get_or, map, Result, Ok, Err, Option, Some, None, Ordering, Less, Greater, All, refl, sym, ap, ◌∙◌, arith}
-use Rattle.std.specs.Prelude.{codes, fold, nat_lt, IfOk, IfSome, IsUtf8, if◌then◌else◌, option_map, option_and_then}
+use Rattle.std.proofs.Common.{◌≡◌, ℕ, ◌≤◌, ◌<◌, ◌^◌, ◌+◌, Bool, true, false, List, [], ◌∷◌, ◌++◌, length, take, get_or, map, Result, Option, Some, None, Ordering, Less, Greater, All, refl, sym, ap, ◌∙◌, arith}
+use Rattle.std.specs.Prelude.{codes, fold, IfOk, IfSome, IsUtf8, if◌then◌else◌, option_map, option_and_then}
 use Rattle.std.specs.List.{AllByRecursion}
 use Rattle.std.specs.List.Sorted.{IsStrictlySortedBy}
 use Rattle.std.specs.Ordering.{nat_cmp, match_ordering, ordering_reverse}
@@ -10,9 +10,9 @@ use Rattle.std.proofs.lemmas.Bool.{false_from_ne_true}
 use Rattle.std.proofs.lemmas.Bool.Decides.{Decides-ltb}
 use Rattle.std.proofs.lemmas.List.{take_more}
 use Rattle.std.proofs.lemmas.List.Sums.{fold_push}
-use Rattle.std.proofs.lemmas.List.Elements.{All-head, All-tail, All-cons, All-nil}
+use Rattle.std.proofs.lemmas.List.Elements.{All-head, All-tail}
 use Rattle.std.proofs.lemmas.Slice.Eq.{bytes_eq-Decides}
-use Rattle.serde_json.specs.Data.{Data, string, depth, items_depth, members_depth, Members, no_members, member, put}
+use Rattle.serde_json.specs.Data.{Data, number, unsigned, string, object, depth, items_depth, members_depth, Members, no_members, member, put}
 use Rattle.serde_json.specs.View.{items_of}
 use Rattle.serde_json.specs.Read.{read}
 use Rattle.serde_json.specs.Written.{has_float, items_have_float, members_have_float}
@@ -23,9 +23,11 @@ use Rattle.mx_base.proofs.PathLemmas.{instant_of-instant_text}
 use Rattle.mx_meta.specs.declared.commit_meta.WriteStat.{WriteStat}
 use Rattle.mx_meta.specs.declared.commit_meta.PartitionStats.{PartitionStats}
 use Rattle.mx_meta.specs.declared.commit_meta.CommitMeta.{CommitMeta}
-use Rattle.mx_meta.specs.Json.{each_in}
-use Rattle.mx_meta.specs.CommitText.{prev_text, stat_data, stats_data, partitions_data, commit_meta_data, prev_in, stat_in, stats_in, partitions_in, commit_meta_in, commit_meta_of, HasSmallCounts, IsWellFormed, HasNames, HasNamesWithin}
-use Rattle.mx_meta.proofs.JsonLemmas.{neither, put_no_float, put_depth, json_of-read}
+use Rattle.mx_meta.specs.Json.{each_in, count_in, passing}
+use Rattle.mx_meta.specs.Rising.{is_rising}
+use Rattle.mx_meta.specs.CommitText.{stat_below, partition_in, by_partition_in, prev_text, stat_data, stats_data, partitions_data, commit_meta_data, prev_in, stat_in, stats_in, partitions_in, commit_meta_in, commit_meta_of, HasSmallCounts, IsWellFormed, HasNames, HasNamesWithin}
+use Rattle.mx_meta.proofs.JsonLemmas.{neither, put_no_float, put_depth}
+use Rattle.mx_meta.proofs.PathListLemmas.{read_again}
 
 -- ---- no floats
 
@@ -69,26 +71,36 @@ depth-commit_meta_data meta = omega (arith, partitions_depth no_members meta.par
 -- ---- read back
 
 prev_back : (prev : Option ℕ) → IfSome prev (λ at. at < 10 ^ 17) → prev_in (string (prev_text prev)) ≡ Some prev
+unfolding prev_in
 prev_back None small = refl
 prev_back (Some at) small =
     ap (λ (same : Bool). if same then Some None else option_map (λ t. Some t) (instant_of (instant_text at)))
     (false_from_ne_true (bytes_eq (instant_text at) (codes "null")) (λ is. absurd (omega (arith, length-instant at, ap length ((bytes_eq-Decides (instant_text at) (codes "null")).0 is)))))
     ∙ ap (λ (o : Option ℕ). option_map (λ t. Some t) o) (instant_of-instant_text at small)
 
+count_back : (n : ℕ) → n < 2 ^ 63 → count_in (number (unsigned n)) ≡ Some n
+unfolding count_in
+count_back n small = ap (λ (b : Bool). if b then Some n else None) ((Decides-ltb n (2 ^ 63)).1 small)
+
 stat_back : (stat : WriteStat) → HasNames stat → HasSmallCounts stat → stat_in (stat_data stat) ≡ Some stat
 unfolding stat_in stat_data
 stat_back stat names counts =
-    let size : nat_lt stat.file_size_in_bytes (2 ^ 63) ≡ true = (Decides-ltb stat.file_size_in_bytes (2 ^ 63)).1 counts.size in
-    let writes : nat_lt stat.num_writes (2 ^ 63) ≡ true = (Decides-ltb stat.num_writes (2 ^ 63)).1 counts.writes in
+    let size : count_in (number (unsigned stat.file_size_in_bytes)) ≡ Some stat.file_size_in_bytes = count_back stat.file_size_in_bytes counts.size in
+    let writes : count_in (number (unsigned stat.num_writes)) ≡ Some stat.num_writes = count_back stat.num_writes counts.writes in
     let prev : prev_in (string (prev_text stat.prev_commit)) ≡ Some stat.prev_commit = prev_back stat.prev_commit names.prev in
     rw (names.file_id, size, writes, names.path, prev) refl
 
-stats_back : (stats : List WriteStat) → All HasNames stats → All HasSmallCounts stats → stats_in (stats_data stats) ≡ Some stats
-stats_back [] names counts = refl
-stats_back (stat ∷ stats) names counts =
+each_stat_back : (stats : List WriteStat) → All HasNames stats → All HasSmallCounts stats → each_in stat_in (items_of (map stat_data stats)) ≡ Some stats
+each_stat_back [] names counts = refl
+each_stat_back (stat ∷ stats) names counts =
     ap (λ (o : Option WriteStat). option_and_then (λ x. option_map (λ xs. x ∷ xs) (each_in stat_in (items_of (map stat_data stats)))) o)
     (stat_back stat (All-head HasNames stat stats names) (All-head HasSmallCounts stat stats counts))
-    ∙ ap (λ (o : Option (List WriteStat)). option_map (λ xs. stat ∷ xs) o) (stats_back stats (All-tail HasNames stat stats names) (All-tail HasSmallCounts stat stats counts))
+    ∙ ap (λ (o : Option (List WriteStat)). option_map (λ xs. stat ∷ xs) o) (each_stat_back stats (All-tail HasNames stat stats names) (All-tail HasSmallCounts stat stats counts))
+
+stats_back : (stats : List WriteStat) → All HasNames stats → All HasSmallCounts stats → is_rising stat_below stats ≡ true → stats_in (stats_data stats) ≡ Some stats
+unfolding stats_in
+stats_back stats names counts rising =
+    ap (passing (is_rising stat_below)) (each_stat_back stats names counts) ∙ ap (λ (b : Bool). if b then Some stats else None) rising
 
 -- the members in the order of the list
 abbrev in_turn : List PartitionStats → Members
@@ -143,27 +155,23 @@ put_in_turn ms (p ∷ ps) below rising =
     ∙ put_in_turn (then_members ms (member p.partition (stats_data p.stats) no_members)) ps (each_below ms p.partition (stats_data p.stats) (names_of_partitions ps) below.1 rising.0) rising.1
     ∙ then_then ms (member p.partition (stats_data p.stats) no_members) (in_turn ps)
 
-in_turn_back : (ps : List PartitionStats) → All HasNamesWithin ps → All (λ p. All HasSmallCounts p.stats) ps → partitions_in (in_turn ps) ≡ Some ps
-in_turn_back [] names counts = refl
-in_turn_back (p ∷ ps) names counts =
-    let here = All-head HasNamesWithin p ps names in
-    ap (λ (b : Bool). if b then option_and_then (λ stats. option_map (λ more. record { partition = p.partition; stats = stats } ∷ more) (partitions_in (in_turn ps))) (stats_in (stats_data p.stats)) else None) here.partition
-    ∙ ap (λ (o : Option (List WriteStat)). option_and_then (λ stats. option_map (λ more. record { partition = p.partition; stats = stats } ∷ more) (partitions_in (in_turn ps))) o)
-    (stats_back p.stats here.stats (All-head (λ q. All HasSmallCounts q.stats) p ps counts))
+partition_back : (p : PartitionStats) → HasNamesWithin p → All HasSmallCounts p.stats → is_rising stat_below p.stats ≡ true → partition_in p.partition (stats_data p.stats) ≡ Some p
+partition_back p names counts rising =
+    ap (λ (b : Bool). if b then option_map (λ stats. record { partition = p.partition; stats = stats }) (stats_in (stats_data p.stats)) else None) names.partition
+    ∙ ap (λ (o : Option (List WriteStat)). option_map (λ stats. record { partition = p.partition; stats = stats }) o) (stats_back p.stats names.stats counts rising)
+
+in_turn_back : (ps : List PartitionStats) → All HasNamesWithin ps → All (λ p. All HasSmallCounts p.stats) ps → All (λ p. is_rising stat_below p.stats ≡ true) ps → partitions_in (in_turn ps) ≡ Some ps
+in_turn_back [] names counts rising = refl
+in_turn_back (p ∷ ps) names counts rising =
+    ap (λ (o : Option PartitionStats). option_and_then (λ q. option_map (λ more. q ∷ more) (partitions_in (in_turn ps))) o)
+    (partition_back p (All-head HasNamesWithin p ps names) (All-head (λ q. All HasSmallCounts q.stats) p ps counts) (All-head (λ q. is_rising stat_below q.stats ≡ true) p ps rising))
     ∙ ap (λ (o : Option (List PartitionStats)). option_map (λ more. p ∷ more) o)
-    (in_turn_back ps (All-tail HasNamesWithin p ps names) (All-tail (λ q. All HasSmallCounts q.stats) p ps counts))
+    (in_turn_back ps (All-tail HasNamesWithin p ps names) (All-tail (λ q. All HasSmallCounts q.stats) p ps counts) (All-tail (λ q. is_rising stat_below q.stats ≡ true) p ps rising))
 
-pub commit_meta_in-commit_meta_data : (meta : CommitMeta) → IsWellFormed meta → All HasNamesWithin meta.partitions → commit_meta_in (commit_meta_data meta) ≡ Some meta
-unfolding commit_meta_in commit_meta_data
-commit_meta_in-commit_meta_data meta well names =
-    ap (λ (o : Option (List PartitionStats)). option_map (λ partitions. record { partitions = partitions }) o)
-    (ap partitions_in (put_in_turn no_members meta.partitions (none_below (names_of_partitions meta.partitions)) well.rising) ∙ in_turn_back meta.partitions names well.counts)
-
--- what is printed of it is read
-pub commit_meta_of-read : (bytes : List ℕ) (meta : CommitMeta) → IsUtf8 bytes → read bytes ≡ Some (commit_meta_data meta) → IsWellFormed meta → All HasNamesWithin meta.partitions → commit_meta_of bytes ≡ Some meta
-unfolding commit_meta_of
-commit_meta_of-read bytes meta utf8 reads well names =
-    ap (option_and_then commit_meta_in) (json_of-read bytes (commit_meta_data meta) utf8 reads) ∙ commit_meta_in-commit_meta_data meta well names
+by_partition_back : (meta : CommitMeta) → IsWellFormed meta → All HasNamesWithin meta.partitions → by_partition_in (object (partitions_data meta.partitions)) ≡ Some meta.partitions
+unfolding by_partition_in
+by_partition_back meta well names =
+    ap partitions_in (put_in_turn no_members meta.partitions (none_below (names_of_partitions meta.partitions)) well.rising) ∙ in_turn_back meta.partitions names well.counts well.ordered
 
 -- one partition more
 pub partitions_more : (old new : Members) (d : Data) (ps : List PartitionStats) (i : ℕ) (p : PartitionStats) →
@@ -172,16 +180,10 @@ partitions_more old new d ps i p is made here within item =
     is ∙ ap (put p.partition d) made ∙ ap (λ (e : Data). put p.partition e (partitions_data (take i ps))) here
     ∙ sym (ap partitions_data (take_more ps i p within ∙ ap (λ (q : PartitionStats). take i ps ++ q ∷ []) (sym item)) ∙ fold_push with_partition no_members (take i ps) p)
 
--- what is printed, by cases on the outcome
+-- what is printed is read
 pub reads_back : {E : Type 0} (r : Result (List ℕ) E) (meta : CommitMeta) (d : Data) → d ≡ commit_meta_data meta → IfOk r (λ bytes. IsUtf8 bytes) → IfOk r (λ bytes. read bytes ≡ Some d) →
     IsWellFormed meta → All HasNamesWithin meta.partitions → IfOk r (λ bytes. commit_meta_of bytes ≡ Some meta)
-reads_back (Ok bytes) meta d is utf8 reads well names = commit_meta_of-read bytes meta utf8 (reads ∙ ap (λ (e : Data). Some e) is) well names
-reads_back (Err e) meta d is utf8 reads well names = tt
-
--- files of one partition
-pub IsWellFormed-one : (p : PartitionStats) → All HasSmallCounts p.stats → IsWellFormed (record { partitions = p ∷ [] })
-unfolding IsStrictlySortedBy
-IsWellFormed-one p counts = record {
-  rising = (tt, tt);
-  counts = All-cons (λ q. All HasSmallCounts q.stats) p [] counts (All-nil (λ q. All HasSmallCounts q.stats));
-}
+unfolding commit_meta_of commit_meta_in commit_meta_data
+reads_back r meta d is utf8 reads well names =
+    let back : by_partition_in (object (partitions_data meta.partitions)) ≡ Some meta.partitions = by_partition_back meta well names in
+    read_again commit_meta_in meta r d (commit_meta_data meta) is utf8 reads refl (rw back (rw back refl))

@@ -1,5 +1,5 @@
 -- The JSON of a commit's object.
-use Rattle.std.specs.Prelude.{ℕ, ◌<◌, ◌^◌, List, [], ◌∷◌, codes, map, fold, All, IfSome, if◌then◌else◌, Option, Some, None, option_map, option_and_then}
+use Rattle.std.specs.Prelude.{◌≡◌, ℕ, ◌<◌, ◌^◌, List, [], ◌∷◌, Bool, true, codes, map, fold, All, IfSome, if◌then◌else◌, Option, Some, None, option_map, option_and_then}
 use Rattle.std.specs.List.Sorted.{IsStrictlySortedBy}
 use Rattle.std.specs.Str.{bytes_eq}
 use Rattle.std.specs.Ordering.{nat_cmp}
@@ -10,7 +10,9 @@ use Rattle.serde_json.specs.View.{items_of}
 use Rattle.mx_base.specs.Digits.{instant_text}
 use Rattle.mx_base.specs.Names.{is_file_id, IsFileId, is_partition, IsPartition, is_path, IsPath}
 use Rattle.mx_base.specs.Paths.{instant_of}
-use Rattle.mx_meta.specs.Json.{json_of, with_names, field_in, each_in, text_in, count_in}
+use Rattle.mx_meta.specs.Json.{with_names, field_in, each_in, text_in, count_in, passing}
+use Rattle.mx_meta.specs.Fields.{Field, field, with_fields, object_of}
+use Rattle.mx_meta.specs.Rising.{is_rising, bytes_below}
 use Rattle.mx_meta.specs.declared.commit_meta.WriteStat.{WriteStat}
 use Rattle.mx_meta.specs.declared.commit_meta.PartitionStats.{PartitionStats}
 use Rattle.mx_meta.specs.declared.commit_meta.CommitMeta.{CommitMeta}
@@ -40,7 +42,8 @@ commit_meta_data meta = object (member (codes "partitionToWriteStats") (object (
 
 -- ---- read
 
-abbrev pub prev_in : Data → Option (Option ℕ)
+-- an instant, or none where the text is `null`
+unfoldable pub prev_in : Data → Option (Option ℕ)
 prev_in d = option_and_then (λ text. if bytes_eq text (codes "null") then Some None else option_map (λ at. Some at) (instant_of text)) (as_str d)
 
 -- a file's entry has exactly these five fields
@@ -55,23 +58,36 @@ stat_in d =
     (field_in (text_in is_file_id) (codes "fileId") d))
     (with_names (codes "fileId" ∷ codes "fileSizeInBytes" ∷ codes "numWrites" ∷ codes "path" ∷ codes "prevCommit" ∷ []) d)
 
-abbrev pub stats_in : Data → Option (List WriteStat)
-stats_in d = option_and_then (each_in stat_in) (as_array d)
+-- entries stand in the order of their file ids
+abbrev pub stat_below : WriteStat → WriteStat → Bool
+stat_below x y = bytes_below x.file_id y.file_id
 
--- each name is a partition
+unfoldable pub stats_in : Data → Option (List WriteStat)
+stats_in d = passing (is_rising stat_below) (option_and_then (each_in stat_in) (as_array d))
+
+-- a partition's name, and its entries
+abbrev pub partition_in : List ℕ → Data → Option PartitionStats
+partition_in name d = if is_partition name then option_map (λ stats. record { partition = name; stats = stats }) (stats_in d) else None
+
 abbrev pub partitions_in : Members → Option (List PartitionStats)
 partitions_in no_members = Some []
-partitions_in (member name d members) =
-    if is_partition name then option_and_then (λ stats. option_map (λ more. record { partition = name; stats = stats } ∷ more) (partitions_in members)) (stats_in d) else None
+partitions_in (member name d members) = option_and_then (λ p. option_map (λ more. p ∷ more) (partitions_in members)) (partition_in name d)
+
+-- an object of partitions by name
+unfoldable pub by_partition_in : Data → Option (List PartitionStats)
+by_partition_in d = option_and_then partitions_in (as_object d)
+
+abbrev pub commit_meta_fields : Data → List Field
+commit_meta_fields d = field (codes "partitionToWriteStats") by_partition_in d ∷ []
 
 unfoldable pub commit_meta_in : Data → Option CommitMeta
 commit_meta_in d =
-    option_and_then (λ d. option_map (λ partitions. record { partitions = partitions }) (field_in (λ d. option_and_then partitions_in (as_object d)) (codes "partitionToWriteStats") d))
-    (with_names (codes "partitionToWriteStats" ∷ []) d)
+    option_and_then (λ d. option_map (λ partitions. record { partitions = partitions }) (field_in by_partition_in (codes "partitionToWriteStats") d))
+    (with_fields (commit_meta_fields d) d)
 
 -- the commit's object that bytes spell as JSON
 unfoldable pub commit_meta_of : List ℕ → Option CommitMeta
-commit_meta_of bytes = option_and_then commit_meta_in (json_of bytes)
+commit_meta_of bytes = option_and_then commit_meta_in (object_of bytes)
 
 -- ---- what is read back as it was written
 
@@ -80,9 +96,10 @@ pub record HasSmallCounts (stat : WriteStat) : Type 0 where
   pub size : stat.file_size_in_bytes < 2 ^ 63
   pub writes : stat.num_writes < 2 ^ 63
 
--- the partitions rise in byte order, none twice, and each count is below 2^63
+-- the partitions rise in byte order and the entries of each by file id, none twice, and each count is below 2^63
 pub record IsWellFormed (meta : CommitMeta) : Type 0 where
   pub rising : IsStrictlySortedBy (slice_cmp nat_cmp) (map (λ p. p.partition) meta.partitions)
+  pub ordered : All (λ p. is_rising stat_below p.stats ≡ true) meta.partitions
   pub counts : All (λ p. All HasSmallCounts p.stats) meta.partitions
 
 -- the names of a file's entry are names, as its types have it

@@ -1,3 +1,11 @@
+pub mod Rising
 pub mod Json
+pub mod Fields
+pub mod Walk
+pub mod Views
 pub mod CommitText
 pub mod AddedText
+pub mod PathLists
+pub mod Plans
+pub mod Places
+pub mod ShardFiles

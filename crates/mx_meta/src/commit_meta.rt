@@ -1,10 +1,14 @@
-ghost use Rattle.std.specs.Prelude.{◌≡◌, ◌<◌, ◌^◌, All, IfOk, IfSome, OnOk, Some, map};
+ghost use Rattle.std.specs.Prelude.{◌≡◌, ◌<◌, ◌^◌, All, IfOk, IfSome, OnOk, Some, None, map};
 ghost use Rattle.serde_json.specs.View.{view, members_view};
 ghost use Rattle.serde_json.specs.Written.{compact_text};
 ghost use Rattle.mx_meta.specs.CommitText as text;
-ghost use Rattle.mx_meta.specs.CommitText.{commit_meta_data, commit_meta_of, stat_data, partitions_data, IsWellFormed, HasNames, HasNamesWithin};
+ghost use Rattle.mx_meta.specs.Fields.{IfBad, IsRefusedFor};
+ghost use Rattle.mx_meta.specs.CommitText.{commit_meta_data, commit_meta_fields, commit_meta_of, stat_data, partitions_data, IsWellFormed, HasNames, HasNamesWithin};
 
+use crate::MetaError;
+use crate::checking::{Field, check_fields, read_object};
 use crate::line::line_bytes;
+use crate::stats::partitions_field;
 use mx_base::{FileId, Instant, Partition, Path};
 use mx_lists::{Bytes, Listed, Text};
 use serde_json::{Map, Value, json};
@@ -42,6 +46,25 @@ impl CommitMeta {
     {
         let value = meta_value(alloc, self)?;
         line_bytes(alloc, &value)
+    }
+
+    /// The object that bytes spell.
+    #[tactic(auto, unfolding(crate::specs::CommitText::commit_meta_of, crate::specs::CommitText::commit_meta_in))]
+    pub fn read(alloc: Global, bytes: &[u8]) -> Result<CommitMeta, MetaError>
+        ensures ok { IfOk result (λ meta. commit_meta_of bytes.now ≡ Some meta) }
+        ensures bad { IfBad result (IsRefusedFor commit_meta_fields bytes.now) }
+        ensures only { IfBad result (λ _. commit_meta_of bytes.now ≡ None) }
+    {
+        let object = read_object(alloc, bytes)?;
+        let partitions = partitions_field(alloc, &object, "partitionToWriteStats")?;
+        let fields = [Field {
+            name: "partitionToWriteStats",
+            reads: partitions.is_some(),
+        }];
+        check_fields(alloc, &object, &fields)?;
+        Ok(CommitMeta {
+            partitions: partitions.unwrap(),
+        })
     }
 }
 

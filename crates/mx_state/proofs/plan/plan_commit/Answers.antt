@@ -1,4 +1,4 @@
-use Rattle.std.proofs.Common.{◌≡◌, ◌∙◌, sym, ap, subst, rules, ℕ, ◌<◌, ◌^◌, List, [], ◌∷◌, length, Option, Some, refl, arith}
+use Rattle.std.proofs.Common.{◌≡◌, ◌∙◌, sym, ap, subst, rules, ℕ, ◌<◌, ◌^◌, List, [], ◌∷◌, length, Option, Some, true, refl, arith}
 use Rattle.std.specs.Prelude.{All, Result, Ok, IfOk}
 use Rattle.std.specs.Ordering.{nat_cmp}
 use Rattle.std.specs.Cmp.Lexicographic.{slice_cmp}
@@ -7,7 +7,8 @@ use Rattle.std.proofs.lemmas.List.Elements.{All-cons}
 use Rattle.std.specs.List.Sorted.{IsStrictlySortedBy}
 use Rattle.serde_json.specs.Written.{compact_text}
 use Rattle.mx_meta.specs.AddedText.{added_data}
-use Rattle.mx_meta.specs.CommitText.{commit_meta_data, commit_meta_of, IsWellFormed, HasSmallCounts}
+use Rattle.mx_meta.specs.CommitText.{commit_meta_data, commit_meta_of, stat_below, IsWellFormed, HasSmallCounts}
+use Rattle.mx_meta.specs.Rising.{is_rising}
 use Rattle.mx_meta.specs.declared.added.AddedFile.{AddedFile}
 use Rattle.mx_meta.specs.declared.commit_meta.CommitMeta.{CommitMeta}
 use Rattle.mx_ask.specs.declared.ask.FileText.{FileText}
@@ -24,6 +25,7 @@ alone text = (tt, tt)
 well_formed : (file : FileText) (at : ℕ) (latest : Option ℕ) → length file.text < 2 ^ 63 → IsWellFormed (meta_of_commit file at latest)
 well_formed file at latest small = record {
   rising = alone file.partition;
+  ordered = All-cons (λ p. is_rising stat_below p.stats ≡ true) _ [] refl (none (λ p. is_rising stat_below p.stats ≡ true));
   counts = All-cons (λ p. All HasSmallCounts p.stats) _ [] (All-cons HasSmallCounts _ [] (record { size = small; writes = omega arith }) (none HasSmallCounts)) (none (λ p. All HasSmallCounts p.stats));
 }
 

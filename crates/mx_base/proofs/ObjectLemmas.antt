@@ -12,7 +12,7 @@ use Rattle.mx_base.specs.Digits.{digits, instant_text, IsInstant}
 use Rattle.mx_base.specs.Names.{is_name_byte, is_path, is_segment, IsPath}
 use Rattle.mx_base.specs.Objects.{timeline_ending, metadata_ending, base_ending, part_front, shard_front, object_path, IsObjectName, is_delta_commit, timeline_kinds, metadata_kinds}
 use Rattle.mx_base.specs.Parts.{part_name}
-use Rattle.mx_base.specs.Paths.{number_of}
+use Rattle.mx_base.specs.Paths.{number_of, commit_path, files_log_path}
 use Rattle.mx_base.specs.declared.part.Part.{Part}
 use Rattle.mx_base.specs.declared.part.Part.TheVariants.{Files, ColumnStats, BloomFilters, RecordIndex}
 use Rattle.mx_base.specs.declared.object_name.ActionKind.{ActionKind}
@@ -31,7 +31,7 @@ use Rattle.mx_base.proofs.Places.{length-instant, length-digits, each_digit}
 
 -- ---- the front of a name
 
-append-split : (a b e f : List ℕ) (n : ℕ) → length a ≡ n → length b ≡ n → a ++ e ≡ b ++ f → (a ≡ b) × (e ≡ f)
+pub append-split : (a b e f : List ℕ) (n : ℕ) → length a ≡ n → length b ≡ n → a ++ e ≡ b ++ f → (a ≡ b) × (e ≡ f)
 append-split a b e f n here there same =
     (sym (take_at a e n here) ∙ ap (take n) same ∙ take_at b f n there, sym (drop_at a e n here) ∙ ap (drop n) same ∙ drop_at b f n there)
 
@@ -491,13 +491,16 @@ log_undated p s name more rest is never part shard at kept same =
     let bounds = log_small part shard at kept in
     never at (codes ".log") bounds.1 (lit< tt) (shard_rest p part s shard name more rest (instant_text at ++ codes ".log") is bounds.0 (log_name_is name part shard at same)).2
 
--- where a name may be cut behind its instant
-pub boundary : (name : List ℕ) (at : ℕ) (ending : List ℕ) → get_or ending 0 0 < 128 → name ≡ instant_text at ++ ending → IsCharBoundary name 17
-boundary name at [] low is = (omega (arith, ap length is, length-append (instant_text at) [], length-instant at), λ longer high. absurd (omega (arith, longer, ap length is, length-append (instant_text at) [], length-instant at)))
-boundary name at (y ∷ ys) low is = (
-  omega (arith, ap length is, length-append (instant_text at) (y ∷ ys), length-instant at),
-  λ longer high. let byte : get_or name 17 0 ≡ y = ap (λ (l : List ℕ). get_or l 17 0) is ∙ ap (λ (n : ℕ). get_or (instant_text at ++ y ∷ ys) n 0) (sym (length-instant at)) ∙ get_or-append_seam (instant_text at) y ys 0 in absurd (omega (arith, high, byte, low)),
+-- where a text may be cut
+pub boundary_at : (name front rest : List ℕ) (n : ℕ) → length front ≡ n → get_or rest 0 0 < 128 → name ≡ front ++ rest → IsCharBoundary name n
+boundary_at name front [] n len low is = (omega (arith, len, ap length is, length-append front []), λ longer high. absurd (omega (arith, len, longer, ap length is, length-append front [])))
+boundary_at name front (y ∷ ys) n len low is = (
+  omega (arith, len, ap length is, length-append front (y ∷ ys)),
+  λ longer high. let byte : get_or name n 0 ≡ y = ap (λ (l : List ℕ). get_or l n 0) is ∙ ap (λ (i : ℕ). get_or (front ++ y ∷ ys) i 0) (sym len) ∙ get_or-append_seam front y ys 0 in absurd (omega (arith, high, byte, low)),
 )
+
+pub boundary : (name : List ℕ) (at : ℕ) (ending : List ℕ) → get_or ending 0 0 < 128 → name ≡ instant_text at ++ ending → IsCharBoundary name 17
+boundary name at ending low is = boundary_at name (instant_text at) ending 17 (length-instant at) low is
 
 pub base_no_log : (kind : BaseKind) → base_ending kind ≢ codes ".log"
 unfolding first_byte
@@ -602,3 +605,13 @@ object_path-injective (Log p s a) other kept there same =
     (λ part shard at kept_other same_other.
     let here = log_dated p s a (part_front p ++ more) more end (codes ".log") is bounds.1 refl part shard at kept_other same_other in
     log_exact (Some (Log p s a)) p part s shard a at (kept_some (Log p s a) kept) kept_other here.0 here.1 here.2) other there same)
+
+-- ---- names that have a path of their own
+
+pub object_path-commit : (at : ℕ) → object_path (Timeline at action.Commit Completed) ≡ commit_path at
+unfolding object_path commit_path
+object_path-commit at = refl
+
+pub object_path-files_log : (at : ℕ) → object_path (Log Files 0 at) ≡ files_log_path at
+unfolding object_path files_log_path
+object_path-files_log at = refl

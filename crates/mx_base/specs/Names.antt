@@ -17,6 +17,13 @@ is_partition text = nat_lt 0 (length text) && (nat_le (length text) 64 && (is_as
 abbrev pub IsPartition : List ℕ → Type 0
 IsPartition text = is_partition text ≡ true
 
+-- a text is a record key where it has 1 to 255 bytes, none of them 0
+unfoldable pub is_record_key : List ℕ → Bool
+is_record_key text = nat_lt 0 (length text) && (nat_le (length text) 255 && list_all (λ byte. not (byte == 0)) text)
+
+abbrev pub IsRecordKey : List ℕ → Type 0
+IsRecordKey text = is_record_key text ≡ true
+
 -- a segment has 1 to 255 bytes of names, and is not `.` or `..`
 unfoldable pub is_segment : List ℕ → Bool
 is_segment text =

@@ -1,4 +1,4 @@
-ghost use Rattle.std.specs.Prelude.{◌≡◌};
+ghost use Rattle.std.specs.Prelude.{◌≡◌, ◌==◌, not};
 ghost use Rattle.std.specs.List.{list_all};
 ghost use Rattle.mx_base.specs.Names as names;
 
@@ -8,6 +8,20 @@ pub fn is_partition(text: &[u8]) -> bool
     ensures { result ≡ names.is_partition text.now }
 {
     !text.is_empty() && text.len() <= 64 && text[0].is_ascii_alphanumeric() && are_name_bytes(text)
+}
+
+/// Whether the bytes of a text are a record key.
+#[tactic(auto, unfolding(crate::specs::Names::is_record_key))]
+pub fn is_record_key(text: &[u8]) -> bool
+    ensures { result ≡ names.is_record_key text.now }
+{
+    !text.is_empty() && text.len() <= 255 && are_not_zero(text)
+}
+
+fn are_not_zero(text: &[u8]) -> bool
+    ensures { result ≡ list_all (λ byte. not (byte == 0)) text.now }
+{
+    text.iter().all(|&byte| byte != 0)
 }
 
 /// Whether the text is a path.

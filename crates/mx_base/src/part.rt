@@ -43,7 +43,8 @@ impl Part {
 
     /// How many shards it has.
     pub fn shards(self) -> u32
-        ensures { result ≡ shard_count self }
+        ensures value { result ≡ shard_count self }
+        ensures some { 0 < result }
     {
         match self {
             Part::Files => 1,

@@ -506,3 +506,115 @@ fn other_paths_are_no_objects(rt: HostRuntime) -> Result<(), Fail> {
     }
     Ok(())
 }
+
+#[test]
+fn a_data_file_stands_in_its_partition(rt: HostRuntime) -> Result<(), Fail> {
+    let alloc = rt.alloc();
+    let cases = [
+        (
+            "p/11111111-1111-4111-8111-111111111111_0-0-0_00000000000000001.parquet",
+            true,
+        ),
+        (
+            "2024-01-01/11111111-1111-4111-8111-111111111111_0-0-0_20250101000000000.parquet",
+            true,
+        ),
+        (
+            "p/11111111-1111-4111-8111-111111111111_0-0-0_00000000000000000.parquet",
+            false,
+        ),
+        (
+            "p/11111111-1111-4111-8111-111111111111_0-0-0_0000000000000001.parquet",
+            false,
+        ),
+        (
+            "p/11111111-1111-4111-8111-11111111111A_0-0-0_00000000000000001.parquet",
+            false,
+        ),
+        (
+            "p/11111111-1111-4111-8111-111111111111_0-0-1_00000000000000001.parquet",
+            false,
+        ),
+        (
+            "p/11111111-1111-4111-8111-111111111111_0-0-0_00000000000000001.avro",
+            false,
+        ),
+        (
+            ".p/11111111-1111-4111-8111-111111111111_0-0-0_00000000000000001.parquet",
+            false,
+        ),
+        (
+            "p/q/11111111-1111-4111-8111-111111111111_0-0-0_00000000000000001.parquet",
+            false,
+        ),
+        (
+            "11111111-1111-4111-8111-111111111111_0-0-0_00000000000000001.parquet",
+            false,
+        ),
+        (".hoodie/00000000000000001.commit", false),
+    ];
+    for (text, is_data_file) in cases {
+        let path = Path::parse(alloc, text).ok().expect(&rt, "a path");
+        let found = DataFile::of(alloc, &path)?;
+        assert_eq!(rt; found.is_some(), is_data_file);
+        if let Some(found) = found {
+            let again = Path::of_data_file(alloc, &found.partition, &found.file, found.at)?;
+            assert_eq!(rt; again.as_str(), text);
+        }
+    }
+    Ok(())
+}
+
+#[test]
+fn a_record_key_is_1_to_255_bytes_that_are_not_0(rt: HostRuntime) -> Result<(), Fail> {
+    let alloc = rt.alloc();
+    let most = "k".repeat(alloc, 255)?;
+    let more = "k".repeat(alloc, 256)?;
+    let cases = [
+        ("", false),
+        ("a", true),
+        ("/ \u{e9}\n", true),
+        ("a\0b", false),
+        (most.as_str(), true),
+        (more.as_str(), false),
+    ];
+    for (text, is_key) in cases {
+        match RecordKey::parse(alloc, text) {
+            Ok(key) => {
+                assert!(rt; is_key, "{text}");
+                assert_eq!(rt; key.as_str(), text);
+                assert!(rt; key.same(&key.clone()?));
+            }
+            Err(error) => {
+                assert_eq!(rt; error, NameError::BadName);
+                assert!(rt; !is_key, "{text}");
+            }
+        }
+    }
+    Ok(())
+}
+
+#[test]
+fn seats_go_up_to_16(rt: HostRuntime) -> Result<(), Fail> {
+    for (number, is_seat) in [(0, true), (16, true), (17, false), (255, false)] {
+        assert_eq!(rt; Seat::new(number).is_some(), is_seat);
+        assert!(rt; Seat::new(number).map_or(true, |seat| seat.number() == number));
+    }
+    Ok(())
+}
+
+#[test]
+fn the_shard_of_a_name_is_by_its_md5(rt: HostRuntime) -> Result<(), Fail> {
+    let cases = [
+        (Part::RecordIndex, "a", 1),
+        (Part::RecordIndex, "abc", 0),
+        (Part::RecordIndex, "b", 6),
+        (Part::Files, "a", 0),
+        (Part::Files, "b", 0),
+        (Part::ColumnStats, "b", 2),
+    ];
+    for (part, name, expected) in cases {
+        assert_eq!(rt; shard(part, name.as_bytes()), expected, "{name}");
+    }
+    Ok(())
+}

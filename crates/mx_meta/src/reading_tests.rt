@@ -194,23 +194,27 @@ fn lists_out_of_order_and_other_values_are_bad_fields(rt: HostRuntime) -> Result
     Ok(())
 }
 
+const STATS_LOG: &str = ".hoodie/metadata/column_stats/column_stats-0001_20250101000000000.log";
+
+const BLOOM_LOG: &str = ".hoodie/metadata/bloom_filters/bloom_filters-0000_20250101000000000.log";
+
+const FIRST_BASE: &str = ".hoodie/metadata/files/files-0000_00000000000000000010.hfile";
+
+const NEXT_BASE: &str = ".hoodie/metadata/files/files-0001_20250101000000000001.hfile";
+
 #[test]
 fn logs_and_bases_stand_by_partition_and_shard(rt: HostRuntime) -> Result<(), Fail> {
     let alloc = rt.alloc();
-    let log = ".hoodie/metadata/column_stats/column_stats-0001_20250101000000000.log";
-    let later = ".hoodie/metadata/bloom_filters/bloom_filters-0000_20250101000000000.log";
-    let base = ".hoodie/metadata/files/files-0000_00000000000000000010.hfile";
-    let compacted = ".hoodie/metadata/files/files-0001_20250101000000000001.hfile";
     let cases: [(ShardFile, &[&str], bool); 10] = [
         (ShardFile::Log, &[], true),
-        (ShardFile::Log, &[log, later], true),
-        (ShardFile::Log, &[later, log], false),
-        (ShardFile::Log, &[log, log], false),
-        (ShardFile::Log, &[base], false),
-        (ShardFile::Base, &[base, compacted], true),
-        (ShardFile::Base, &[compacted, base], false),
-        (ShardFile::Base, &[base, base], false),
-        (ShardFile::Base, &[log], false),
+        (ShardFile::Log, &[STATS_LOG, BLOOM_LOG], true),
+        (ShardFile::Log, &[BLOOM_LOG, STATS_LOG], false),
+        (ShardFile::Log, &[STATS_LOG, STATS_LOG], false),
+        (ShardFile::Log, &[FIRST_BASE], false),
+        (ShardFile::Base, &[FIRST_BASE, NEXT_BASE], true),
+        (ShardFile::Base, &[NEXT_BASE, FIRST_BASE], false),
+        (ShardFile::Base, &[FIRST_BASE, FIRST_BASE], false),
+        (ShardFile::Base, &[STATS_LOG], false),
         (ShardFile::Base, &["x"], false),
     ];
     let upto = Instant::new(7).expect(&rt, "an instant");
@@ -344,7 +348,8 @@ fn a_list_is_made_of_what_stands_in_its_order_alone(rt: HostRuntime) -> Result<(
     assert!(rt; RollbackPlan::new(none, Listed::new(alloc)).is_none());
     let plan = RollbackPlan::new(upto, paths_of(alloc, &["a"])?).expect(&rt, "a plan");
     assert_eq!(rt; plan.instant(), upto);
-    assert_eq!(rt; plan.paths()[0].as_str(), "a");
+    let first = plan.paths().first().expect(&rt, "a path");
+    assert_eq!(rt; first.as_str(), "a");
     Ok(())
 }
 

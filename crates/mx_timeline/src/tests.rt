@@ -84,24 +84,23 @@ fn an_instant_is_completed_by_a_commit_or_a_clean_alone(rt: HostRuntime) -> Resu
     Ok(())
 }
 
+// The name that is refused.
+fn refused(alloc: Global, rt: &impl Abort, names: &[&str]) -> Result<Path, Fail> {
+    let paths = paths_of(alloc, rt, names)?;
+    match Timeline::of(alloc, paths.as_slice()) {
+        Err(TimelineError::BadTimeline { name }) => Ok(name),
+        _ => Err(Fail::new("each name was taken, or memory ran out")),
+    }
+}
+
 #[test]
 fn the_first_name_that_is_no_objects_is_named(rt: HostRuntime) -> Result<(), Fail> {
     let alloc = rt.alloc();
-    let cases: [(&[&str], &str); 3] = [
-        (&["2024-01-01/a"], "2024-01-01/a"),
-        (&[T1, ".hoodie/x", ".hoodie/w"], ".hoodie/x"),
-        (
-            &[T1, ".hoodie/00000000000000000.commit"],
-            ".hoodie/00000000000000000.commit",
-        ),
-    ];
-    for (names, bad) in cases {
-        let paths = paths_of(alloc, &rt, names)?;
-        match Timeline::of(alloc, paths.as_slice()) {
-            Err(TimelineError::BadTimeline { name }) => assert_eq!(rt; name.as_str(), bad),
-            Err(TimelineError::NoMemory) => assert!(rt; false, "memory is ample"),
-            Ok(_) => assert!(rt; false, "{bad} was taken"),
-        }
-    }
+    let name = refused(alloc, &rt, &["2024-01-01/a"])?;
+    assert_eq!(rt; name.as_str(), "2024-01-01/a");
+    let name = refused(alloc, &rt, &[T1, ".hoodie/x", ".hoodie/w"])?;
+    assert_eq!(rt; name.as_str(), ".hoodie/x");
+    let name = refused(alloc, &rt, &[T1, ".hoodie/00000000000000000.commit"])?;
+    assert_eq!(rt; name.as_str(), ".hoodie/00000000000000000.commit");
     Ok(())
 }

@@ -1,0 +1,39 @@
+-- Levels are pushed as long as fewer than are wanted are there.
+use Rattle.std.proofs.Common.{◌≡◌, ℕ, zero, suc, ◌+◌, ◌-◌, ◌/◌, ◌%◌, ◌<◌, ◌≤◌, Bool, eqb, List, [], ◌∷◌, ◌++◌, length, take, replicate, append_assoc, length-append, refl, sym, ap, ◌∙◌, arith}
+use Rattle.std.proofs.lemmas.List.{take_all, take-append-le, append-nil, length-replicate}
+use Rattle.mx_levels.specs.Encoding.{bits}
+
+pub take-take_append : {X : Type 0} (n : ℕ) (xs ys : List X) → take n (take n xs ++ ys) ≡ take n (xs ++ ys)
+take-take_append zero xs ys = refl
+take-take_append (suc n) [] ys = refl
+take-take_append {X = X} (suc n) (x ∷ xs) ys = ap (λ (r : List X). x ∷ r) (take-take_append n xs ys)
+
+pub resized : (old : List Bool) (len more count : ℕ) (level : Bool) → len ≡ length old → len ≤ count → more ≤ count - len
+    → take (len + more) old ++ replicate (len + more - len) level ≡ take count (old ++ replicate more level)
+resized old len more count level is le room =
+    let front : take (len + more) old ≡ old = take_all (len + more) old (omega arith) in
+    let new : len + more - len ≡ more = omega arith in
+    let within : length (old ++ replicate more level) ≤ count = omega (arith, length-append old (replicate more level), length-replicate more level) in
+    rw (front, new) (sym (take_all count (old ++ replicate more level) within))
+
+pub bits_more : (left n : ℕ) → bits (suc left) n ≡ eqb (n % 2) 1 ∷ bits left (n / 2)
+unfolding bits
+bits_more left n = refl
+
+pub pushed_bit : (i n count : ℕ) (levels total : List Bool) (bit : Bool) → i < 8 → bit ≡ eqb (n % 2) 1
+    → take count (levels ++ bits (8 - i) n) ≡ total → take count ((levels ++ bit ∷ []) ++ bits (8 - (i + 1)) (n / 2)) ≡ total
+pushed_bit i n count levels total bit lt is so_far =
+    let k : 8 - i ≡ suc (8 - (i + 1)) = omega arith in
+    let all : bits (8 - i) n ≡ bit ∷ bits (8 - (i + 1)) (n / 2) = ap (λ (j : ℕ). bits j n) k ∙ bits_more (8 - (i + 1)) n ∙ ap (λ (b : Bool). b ∷ bits (8 - (i + 1)) (n / 2)) (sym is) in
+    ap (take count) (append_assoc levels (bit ∷ []) (bits (8 - (i + 1)) (n / 2)) ∙ ap (λ (r : List Bool). levels ++ r) (sym all)) ∙ so_far
+
+pub enough_bits : (count : ℕ) (levels more total : List Bool) → length levels ≡ count → take count (levels ++ more) ≡ total → levels ≡ total
+enough_bits count levels more total is so_far =
+    sym (take_all count levels (omega arith)) ∙ sym (take-append-le count levels more (omega arith)) ∙ so_far
+
+pub no_bits : (i n count : ℕ) (levels total : List Bool) → 8 ≤ i → length levels ≤ count → take count (levels ++ bits (8 - i) n) ≡ total → levels ≡ total
+unfolding bits
+no_bits i n count levels total ge le so_far =
+    let none : 8 - i ≡ 0 = omega arith in
+    let nothing : levels ++ bits (8 - i) n ≡ levels = ap (λ (j : ℕ). levels ++ bits j n) none ∙ append-nil levels in
+    sym (take_all count levels le) ∙ ap (take count) (sym nothing) ∙ so_far

@@ -1,20 +1,7 @@
 -- Levels are pushed as long as fewer than are wanted are there.
-use Rattle.std.proofs.Common.{◌≡◌, ℕ, zero, suc, ◌+◌, ◌-◌, ◌/◌, ◌%◌, ◌<◌, ◌≤◌, Bool, eqb, List, [], ◌∷◌, ◌++◌, length, take, replicate, append_assoc, length-append, refl, sym, ap, ◌∙◌, arith}
-use Rattle.std.proofs.lemmas.List.{take_all, take-append-le, append-nil, length-replicate}
+use Rattle.std.proofs.Common.{◌≡◌, ℕ, suc, ◌+◌, ◌-◌, ◌/◌, ◌%◌, ◌<◌, ◌≤◌, Bool, eqb, List, [], ◌∷◌, ◌++◌, length, take, append_assoc, refl, sym, ap, ◌∙◌, arith}
+use Rattle.std.proofs.lemmas.List.{take_all, append-nil}
 use Rattle.mx_levels.specs.Encoding.{bits}
-
-pub take-take_append : {X : Type 0} (n : ℕ) (xs ys : List X) → take n (take n xs ++ ys) ≡ take n (xs ++ ys)
-take-take_append zero xs ys = refl
-take-take_append (suc n) [] ys = refl
-take-take_append {X = X} (suc n) (x ∷ xs) ys = ap (λ (r : List X). x ∷ r) (take-take_append n xs ys)
-
-pub resized : (old : List Bool) (len more count : ℕ) (level : Bool) → len ≡ length old → len ≤ count → more ≤ count - len
-    → take (len + more) old ++ replicate (len + more - len) level ≡ take count (old ++ replicate more level)
-resized old len more count level is le room =
-    let front : take (len + more) old ≡ old = take_all (len + more) old (omega arith) in
-    let new : len + more - len ≡ more = omega arith in
-    let within : length (old ++ replicate more level) ≤ count = omega (arith, length-append old (replicate more level), length-replicate more level) in
-    rw (front, new) (sym (take_all count (old ++ replicate more level) within))
 
 pub bits_more : (left n : ℕ) → bits (suc left) n ≡ eqb (n % 2) 1 ∷ bits left (n / 2)
 unfolding bits
@@ -26,10 +13,6 @@ pushed_bit i n count levels total bit lt is so_far =
     let k : 8 - i ≡ suc (8 - (i + 1)) = omega arith in
     let all : bits (8 - i) n ≡ bit ∷ bits (8 - (i + 1)) (n / 2) = ap (λ (j : ℕ). bits j n) k ∙ bits_more (8 - (i + 1)) n ∙ ap (λ (b : Bool). b ∷ bits (8 - (i + 1)) (n / 2)) (sym is) in
     ap (take count) (append_assoc levels (bit ∷ []) (bits (8 - (i + 1)) (n / 2)) ∙ ap (λ (r : List Bool). levels ++ r) (sym all)) ∙ so_far
-
-pub enough_bits : (count : ℕ) (levels more total : List Bool) → length levels ≡ count → take count (levels ++ more) ≡ total → levels ≡ total
-enough_bits count levels more total is so_far =
-    sym (take_all count levels (omega arith)) ∙ sym (take-append-le count levels more (omega arith)) ∙ so_far
 
 pub no_bits : (i n count : ℕ) (levels total : List Bool) → 8 ≤ i → length levels ≤ count → take count (levels ++ bits (8 - i) n) ≡ total → levels ≡ total
 unfolding bits

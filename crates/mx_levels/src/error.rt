@@ -6,7 +6,7 @@ use std::alloc::{AllocError, AllocFailed};
 /// Why bytes are no levels.
 #[derive(Clone, Copy, Debug, PartialEq, Eq)]
 pub enum LevelError {
-    /// No run that fits begins there, or nothing should stand there.
+    /// No run that fits begins there, or the levels are complete and nothing should stand there.
     BadRun { at: usize },
     NoMemory,
 }

@@ -1,7 +1,8 @@
-//! Definition levels of an optional column, as runs of bit width 1 and back.
+//! Definition levels of an optional column, which say of each row whether a cell is there, as bytes and back.
 //!
-//! A run is a level that is repeated, or groups of eight levels, each of them a byte (`specs/Encoding.antt`). Written are
-//! runs of the first kind alone, each as long as can be; read are both kinds (`specs/Decoding.antt`).
+//! They stand in Parquet's hybrid of bit width 1. A run is a level that is repeated, or groups of eight levels, each of
+//! them a byte (`specs/Encoding.antt`). Written are runs of the first kind alone, each as long as can be; read are both
+//! kinds (`specs/Decoding.antt`).
 //!
 //! | call | contract |
 //! |---|---|

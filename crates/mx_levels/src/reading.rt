@@ -6,7 +6,7 @@ use crate::error::LevelError;
 use crate::run::{Run, run_in};
 use std::alloc::{AllocError, Global};
 
-/// The levels that the bytes stand for, so many of them.
+/// The levels that all of the bytes stand for, as many as are wanted.
 pub fn read_levels(alloc: Global, bytes: &[u8], count: usize) -> Result<Vec<bool>, LevelError>
     ensures ok { IfOk result (λ levels. Decodes bytes.now count levels.items) }
     ensures only { (levels : List Bool) → Decodes bytes.now count levels → ShowsUnlessMemory (λ v. v.items) result levels }

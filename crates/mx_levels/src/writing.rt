@@ -7,7 +7,7 @@ ghost use Rattle.mx_levels.specs.Decoding.{Decodes};
 use mx_avro::put_long;
 use std::alloc::{AllocError, Global};
 
-/// The levels as runs of one level, each as long as can be.
+/// The bytes of the levels: runs of one level, each as long as can be.
 pub fn write_levels(alloc: Global, levels: &[bool]) -> Result<Vec<u8>, AllocError>
     ensures bytes { IfOk result (λ out. out.items ≡ written levels.now) }
     ensures reads { IfOk result (λ out. Decodes out.items (length levels.now) levels.now) }

@@ -1,0 +1,4 @@
+pub mod RunLemmas
+pub mod PushLemmas
+pub mod DecodingLemmas
+pub mod WrittenLemmas

@@ -137,7 +137,7 @@ fn a_refusal_names_the_least_bad_field(rt: HostRuntime) -> Result<(), Fail> {
 }
 
 #[test]
-fn lists_out_of_order_and_other_values_are_bad_fields(rt: HostRuntime) -> Result<(), Fail> {
+fn lists_out_of_order_are_bad_fields(rt: HostRuntime) -> Result<(), Fail> {
     let alloc = rt.alloc();
     let rows = [
         (
@@ -150,6 +150,27 @@ fn lists_out_of_order_and_other_values_are_bad_fields(rt: HostRuntime) -> Result
             "{\"parts\":[\"files\",\"files\"],\"upto\":\"20250101000000000\"}",
             "parts",
         ),
+        (Kind::Drops, "{\"drop\":[\"b\",\"a\"]}", "drop"),
+        (Kind::Drops, "{\"drop\":[\"a\",\"a\"]}", "drop"),
+    ];
+    for (kind, text, field) in rows {
+        assert!(rt;
+            is_refused_for(alloc, kind, text.as_bytes(), field),
+            "{text}"
+        );
+    }
+    Ok(())
+}
+
+#[test]
+fn other_values_and_other_names_are_bad_fields(rt: HostRuntime) -> Result<(), Fail> {
+    let alloc = rt.alloc();
+    let stats = "partitionToWriteStats";
+    let no_instant = "{\"instant\":\"00000000000000000\",\"paths\":[]}";
+    let no_path = "{\"instant\":\"20250101000000000\",\"paths\":[\"\"]}";
+    let no_partition = "{\"partitionToWriteStats\":{\"a/b\":[]}}";
+    let one_more = "{\"partitionToWriteStats\":{},\"operationType\":1}";
+    let rows = [
         (
             Kind::Compact,
             "{\"parts\":[\"files\"],\"upto\":null}",
@@ -157,33 +178,11 @@ fn lists_out_of_order_and_other_values_are_bad_fields(rt: HostRuntime) -> Result
         ),
         (Kind::Paths, "{\"paths\":[\"a\",\"..\"]}", "paths"),
         (Kind::Paths, "{\"more\":1,\"paths\":[]}", "more"),
-        (Kind::Drops, "{\"drop\":[\"b\",\"a\"]}", "drop"),
-        (Kind::Drops, "{\"drop\":[\"a\",\"a\"]}", "drop"),
-        (
-            Kind::Rollback,
-            "{\"instant\":\"00000000000000000\",\"paths\":[]}",
-            "instant",
-        ),
-        (
-            Kind::Rollback,
-            "{\"instant\":\"20250101000000000\",\"paths\":[\"\"]}",
-            "paths",
-        ),
-        (
-            Kind::Commit,
-            "{\"partitionToWriteStats\":[]}",
-            "partitionToWriteStats",
-        ),
-        (
-            Kind::Commit,
-            "{\"partitionToWriteStats\":{},\"operationType\":1}",
-            "operationType",
-        ),
-        (
-            Kind::Commit,
-            "{\"partitionToWriteStats\":{\"a/b\":[]}}",
-            "partitionToWriteStats",
-        ),
+        (Kind::Rollback, no_instant, "instant"),
+        (Kind::Rollback, no_path, "paths"),
+        (Kind::Commit, "{\"partitionToWriteStats\":[]}", stats),
+        (Kind::Commit, one_more, "operationType"),
+        (Kind::Commit, no_partition, stats),
     ];
     for (kind, text, field) in rows {
         assert!(rt;

@@ -1,0 +1,166 @@
+-- The create that completes a commit.
+use Rattle.std.proofs.Common.{◌≡◌, ◌≢◌, ◌⊎◌, inl, inr, ⊎_elim, ℕ, ◌≤◌, ◌<◌, arith, Bool, true, false, List, [], ◌∷◌, ◌++◌, Option, Some, None, IsSome, refl, sym, ◌∙◌, ap, subst, append-nil}
+use Rattle.std.specs.Prelude.{option_and_then, All, Contains, unwrap_or, nat_eq}
+use Rattle.std.specs.List.{flat_map}
+use Rattle.std.proofs.Math.Nat.{eq-or-lt_of_le}
+use Rattle.std.proofs.lemmas.Bool.{cases_lt}
+use Rattle.std.proofs.lemmas.Bool.Decides.{eqb_tells}
+use Rattle.std.proofs.lemmas.List.Elements.{All-contains}
+use Rattle.std.proofs.lemmas.Grind.{flat_map-append}
+use Rattle.mx_base.specs.Objects.{IsObjectName, object_path}
+use Rattle.mx_base.specs.declared.object_name.ObjectName.{ObjectName}
+use Rattle.mx_base.specs.declared.object_name.ObjectName.TheVariants.{Config, Timeline}
+use Rattle.mx_meta.specs.CommitText.{commit_meta_of}
+use Rattle.mx_meta.specs.ShardFiles.{delta_meta_of}
+use Rattle.mx_meta.specs.declared.added.AddedFile.{AddedFile}
+use Rattle.mx_model.specs.declared.action.Action.{Action}
+use Rattle.mx_model.specs.Listing.{files_of, listed_files}
+use Rattle.mx_model.specs.Maps.{FilesMap, files_map}
+use Rattle.mx_store.specs.Objects.{Objects, at_path}
+use Rattle.mx_store.proofs.Paths.{cases_path}
+use Rattle.mx_folder.specs.Named.{object_at, commit_name, delta_name, log_name, first_bases, IsHidden}
+use Rattle.mx_folder.specs.Actions.{IsCompleted, action_at, actions_upto, added_at, logged_files}
+use Rattle.mx_folder.specs.Reading.{IsAvailable}
+use Rattle.mx_folder.specs.Folder.{IsObjectAt, IsNeeded, IsSound, IsOpenable, IsValidTable}
+use Rattle.mx_folder.specs.Steps.{DifferAt, MayComplete}
+use Rattle.mx_folder.proofs.NamedLemmas.{object_at-same, object_at-is, object_at-none, object_at-some, other_path, is_some_same}
+use Rattle.mx_folder.proofs.ReadingLemmas.{available_from, named_bases-same, reads_same}
+use Rattle.mx_folder.proofs.ActionLemmas.{action_at-some, added_at-same, upto_before, upto_from, logged_files-same, files_map-append}
+
+-- the instant that a name of a commit is of
+commit_at : ObjectName → ℕ → ℕ
+commit_at (Timeline at kind state) other = at
+commit_at name other = other
+
+module _ (o n : Objects) (at : ℕ) (bytes : List ℕ) (may : MayComplete o at bytes) (stands : at_path n (object_path (commit_name at)) ≡ Some bytes) (differ : DifferAt (object_path (commit_name at)) o n) where
+  name_same : (name : ObjectName) → name ≢ commit_name at → object_at n name ≡ object_at o name
+  name_same name other = object_at-same o n name (λ is. differ (object_path name) (other_path name (commit_name at) is may.is_name other))
+
+  config_same : object_at n Config ≡ object_at o Config
+  config_same = name_same Config (λ same. absurd (cc same))
+
+  bases_same : object_at n first_bases ≡ object_at o first_bases
+  bases_same = name_same first_bases (λ same. absurd (cc same))
+
+  delta_same : (a : ℕ) → object_at n (delta_name a) ≡ object_at o (delta_name a)
+  delta_same a = name_same (delta_name a) (λ same. absurd (cc same))
+
+  log_same : (a : ℕ) → object_at n (log_name a) ≡ object_at o (log_name a)
+  log_same a = name_same (log_name a) (λ same. absurd (cc same))
+
+  commit_same : (a : ℕ) → a ≢ at → object_at n (commit_name a) ≡ object_at o (commit_name a)
+  unfolding commit_at
+  commit_same a other = name_same (commit_name a) (λ same. other (ap (λ (name : ObjectName). commit_at name a) same))
+
+  completed_from : (a : ℕ) → a ≢ at → IsCompleted n a → IsCompleted o a
+  completed_from a other done = is_some_same _ _ (sym (commit_same a other)) done
+
+  delta_stands : at_path o (object_path (delta_name at)) ≡ Some may.delta
+  delta_stands = let found = object_at-some o (delta_name at) may.delta may.delta_at in found.1
+
+  needed_from : (q : List ℕ) → IsNeeded n q → IsNeeded o q ⊎ IsSome (at_path o q)
+  needed_from q (inl delta) = ⊎_elim
+      (λ (here : (nat_eq delta.0 at ≡ true) × (delta.0 ≡ at)).
+      let path : q ≡ object_path (delta_name at) = delta.2 ∙ ap (λ (a : ℕ). object_path (delta_name a)) here.1 in
+      inr (is_some_same _ _ (ap (at_path o) path ∙ delta_stands) refl))
+      (λ (there : (nat_eq delta.0 at ≡ false) × (delta.0 ≢ at)). inl (inl (delta.0, completed_from delta.0 there.1 delta.1, delta.2)))
+      (eqb_tells delta.0 at)
+  needed_from q (inr (inl log)) = ⊎_elim
+      (λ (here : (nat_eq log.at at ≡ true) × (log.at ≡ at)).
+      let said : option_and_then delta_meta_of (object_at o (delta_name log.at)) ≡ Some log.logs = ap (λ (b : Option (List ℕ)). option_and_then delta_meta_of b) (sym (delta_same log.at)) ∙ log.delta in
+      let known : option_and_then delta_meta_of (object_at o (delta_name log.at)) ≡ Some may.logs = ap (λ (a : ℕ). option_and_then delta_meta_of (object_at o (delta_name a))) here.1 ∙ ap (λ (b : Option (List ℕ)). option_and_then delta_meta_of b) may.delta_at ∙ may.delta_reads in
+      let same : log.logs ≡ may.logs = ap (λ (x : Option (List (List ℕ))). unwrap_or x log.logs) (sym said ∙ known) in
+      inr (All-contains (λ path. IsSome (at_path o path)) may.logs q may.stand (subst (λ (logs : List (List ℕ)). Contains logs q) same log.among)))
+      (λ (there : (nat_eq log.at at ≡ false) × (log.at ≢ at)). inl (inr (inl (record {
+        at = log.at;
+        completed = completed_from log.at there.1 log.completed;
+        logs = log.logs;
+        delta = ap (λ (b : Option (List ℕ)). option_and_then delta_meta_of b) (sym (delta_same log.at)) ∙ log.delta;
+        among = log.among;
+        part = log.part;
+        shard = log.shard;
+        is_name = log.is_name;
+        is_log = log.is_log;
+        available = available_from o n config_same bases_same log.part log.available;
+      }))))
+      (eqb_tells log.at at)
+  needed_from q (inr (inr base)) = inl (inr (inr (record {
+    meta = base.meta;
+    named = sym (named_bases-same o n config_same bases_same) ∙ base.named;
+    among = base.among;
+    part = base.part;
+    is_base = base.is_base;
+    available = available_from o n config_same bases_same base.part base.available;
+  })))
+
+  reads_at : (q b : List ℕ) → IsObjectAt o q b → IsObjectAt n q b
+  reads_at q b is = record { name = is.name; is_name = is.is_name; path_is = is.path_is; reads = reads_same o n config_same bases_same is.name b is.reads }
+
+  stands_in : (q : List ℕ) → q ≢ object_path (commit_name at) → IsSome (at_path o q) → IsSome (at_path n q)
+  stands_in q other h = is_some_same _ _ (differ q other) h
+
+  sound_other : (q : List ℕ) → q ≢ object_path (commit_name at) → IsSound o q → IsSound n q
+  sound_other q other sound = record {
+    object = λ b hidden is. reads_at q b (sound.object b hidden (sym (differ q other) ∙ is));
+    present = λ needed. stands_in q other (⊎_elim sound.present (λ (h : IsSome (at_path o q)). h) (needed_from q needed));
+  }
+
+  same_bytes : (b : List ℕ) → at_path n (object_path (commit_name at)) ≡ Some b → bytes ≡ b
+  same_bytes b is = ap (λ (x : Option (List ℕ)). unwrap_or x b) (sym stands ∙ is)
+
+  sound_here : IsSound n (object_path (commit_name at))
+  sound_here = record {
+    object = λ b hidden is. record {
+      name = commit_name at;
+      is_name = may.is_name;
+      path_is = refl;
+      reads = (may.meta, ap commit_meta_of (sym (same_bytes b is)) ∙ may.reads, may.names);
+    };
+    present = λ needed. is_some_same _ _ stands refl;
+  }
+
+  pub completion_opens : IsOpenable o → IsOpenable n
+  completion_opens opens = record {
+    config = is_some_same _ _ config_same opens.config;
+    sound = λ q. ⊎_elim
+        (λ (same : q ≡ object_path (commit_name at)). subst (IsSound n) (sym same) sound_here)
+        (λ (other : q ≢ object_path (commit_name at)). sound_other q other (opens.sound q))
+        (cases_path q (object_path (commit_name at)));
+  }
+
+  abbrev action : Action
+  action = record { at = at; meta = may.meta }
+
+  counts : action_at n at ≡ Some action
+  counts = action_at-some n at bytes may.meta (object_at-is n (commit_name at) may.is_name ∙ stands) may.reads
+
+  none_before : object_at o (commit_name at) ≡ None
+  none_before = object_at-none o (commit_name at) may.absent
+
+  logged_same : (p : ℕ) → logged_files n (actions_upto o p) ≡ logged_files o (actions_upto o p)
+  logged_same p = logged_files-same o n (λ a done. log_same a) p
+
+  pub completion_shows : IsValidTable o → (p : ℕ) → files_map (logged_files n (actions_upto n p)) ≡ files_map (listed_files (actions_upto n p))
+  completion_shows valid p = ⊎_elim (λ (before : p < at). early before) (λ (within : at ≤ p). late within) (cases_lt p at)
+    where
+      early : p < at → files_map (logged_files n (actions_upto n p)) ≡ files_map (listed_files (actions_upto n p))
+      early before =
+          let same = upto_before o n at commit_same none_before may.newest action counts p before in
+          ap (λ (done : List Action). files_map (logged_files n done)) same
+          ∙ ap (λ (fs : List AddedFile). files_map fs) (logged_same p)
+          ∙ valid.shows p
+          ∙ ap (λ (done : List Action). files_map (listed_files done)) (sym same)
+      late : at ≤ p → files_map (logged_files n (actions_upto n p)) ≡ files_map (listed_files (actions_upto n p))
+      late within =
+          let same = upto_from o n at commit_same none_before may.newest action counts p within in
+          let here : logged_files n (action ∷ []) ≡ files_of action ++ [] = ap (λ (fs : List AddedFile). fs ++ []) (added_at-same o n at (log_same at) ∙ may.logged) in
+          ap (λ (done : List Action). files_map (logged_files n done)) same
+          ∙ ap (λ (fs : List AddedFile). files_map fs)
+          (flat_map-append (λ (a : Action). added_at n a.at) (actions_upto o p) (action ∷ []) ∙ ap (λ (fs : List AddedFile). fs ++ logged_files n (action ∷ [])) (logged_same p)
+          ∙ ap (λ (fs : List AddedFile). logged_files o (actions_upto o p) ++ fs) here)
+          ∙ files_map-append (logged_files o (actions_upto o p)) (listed_files (actions_upto o p)) (files_of action ++ []) (valid.shows p)
+          ∙ ap (λ (fs : List AddedFile). files_map fs) (sym (flat_map-append files_of (actions_upto o p) (action ∷ [])))
+          ∙ ap (λ (done : List Action). files_map (listed_files done)) (sym same)
+
+  pub completion_keeps : IsValidTable o → IsValidTable n
+  completion_keeps valid = record { opens = completion_opens valid.opens; shows = completion_shows valid }

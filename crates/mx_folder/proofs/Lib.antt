@@ -1,0 +1,5 @@
+pub mod NamedLemmas
+pub mod ReadingLemmas
+pub mod ActionLemmas
+pub mod LooseLemmas
+pub mod CompletionLemmas

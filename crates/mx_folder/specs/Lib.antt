@@ -1,0 +1,5 @@
+pub mod Named
+pub mod Actions
+pub mod Reading
+pub mod Folder
+pub mod Steps

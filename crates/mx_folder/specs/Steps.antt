@@ -1,0 +1,45 @@
+-- Which changes of one object leave a table valid.
+use Rattle.std.specs.Prelude.{◌≡◌, ◌≢◌, ℕ, ◌<◌, List, All, Some, None, IsSome}
+use Rattle.mx_base.specs.Objects.{IsObjectName, object_path}
+use Rattle.mx_base.specs.declared.object_name.ObjectName.TheVariants.{Config}
+use Rattle.mx_store.specs.Objects.{Objects, at_path}
+use Rattle.mx_meta.specs.CommitText.{commit_meta_of}
+use Rattle.mx_meta.specs.ShardFiles.{delta_meta_of}
+use Rattle.mx_meta.specs.declared.commit_meta.CommitMeta.{CommitMeta}
+use Rattle.mx_model.specs.Listing.{files_of}
+use Rattle.mx_folder.specs.Named.{object_at, commit_name, delta_name, log_name, first_bases, IsHidden}
+use Rattle.mx_folder.specs.Actions.{IsCompleted, added_at}
+use Rattle.mx_folder.specs.Reading.{NamesItsFiles}
+use Rattle.mx_folder.specs.Folder.{IsObjectAt, IsNeeded}
+
+-- the folders differ at this path at most
+abbrev pub DifferAt : List ℕ → Objects → Objects → Type 0
+DifferAt path old new = (other : List ℕ) → other ≢ path → at_path new other ≡ at_path old other
+
+-- nothing that counts rests on the path: it is neither the config nor the object of the first base, no completed commit is
+-- told by it, no log of one stands there, and it is not needed
+pub record IsLoose (objects : Objects) (path : List ℕ) : Type 0 where
+  pub config : path ≢ object_path Config
+  pub bases : path ≢ object_path first_bases
+  pub commits : (at : ℕ) → IsObjectName (commit_name at) → path ≢ object_path (commit_name at)
+  pub logs : (at : ℕ) → IsCompleted objects at → path ≢ object_path (log_name at)
+  pub unneeded : ¬ (IsNeeded objects path)
+
+-- what then stands there is nothing, or an object of its kind, or no object of the table's own
+abbrev pub MayStand : Objects → Objects → List ℕ → Type 0
+MayStand old new path = (bytes : List ℕ) → IsHidden path → at_path new path ≡ Some bytes → IsObjectAt old path bytes
+
+-- the commit of the instant may be completed by this object: it is the newest one, its logs stand, and they say what the object lists
+pub record MayComplete (objects : Objects) (at : ℕ) (bytes : List ℕ) : Type 0 where
+  pub is_name : IsObjectName (commit_name at)
+  pub absent : at_path objects (object_path (commit_name at)) ≡ None
+  pub newest : (other : ℕ) → IsCompleted objects other → other < at
+  pub meta : CommitMeta
+  pub reads : commit_meta_of bytes ≡ Some meta
+  pub names : NamesItsFiles at meta
+  pub delta : List ℕ
+  pub delta_at : object_at objects (delta_name at) ≡ Some delta
+  pub logs : List (List ℕ)
+  pub delta_reads : delta_meta_of delta ≡ Some logs
+  pub stand : All (λ path. IsSome (at_path objects path)) logs
+  pub logged : added_at objects at ≡ files_of (record { at = at; meta = meta })

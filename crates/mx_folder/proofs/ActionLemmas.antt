@@ -94,7 +94,7 @@ module _ (o n : Objects) (at : ℕ) (commits : (a : ℕ) → a ≢ at → object
 
   upto_at : (p : ℕ) → p ≡ at → actions_upto n p ≡ actions_upto o p ++ action ∷ []
   unfolding actions_upto
-  upto_at zero is = 
+  upto_at zero is =
       let here : action_at n 0 ≡ Some action = subst (λ (a : ℕ). action_at n a ≡ Some action) (sym is) stands in
       let none : action_at o 0 ≡ None = action_at-none o 0 (subst (λ (a : ℕ). object_at o (commit_name a) ≡ None) (sym is) absent) in
       ap option_to_list here ∙ ap (λ (a : Option Action). option_to_list a ++ action ∷ []) (sym none)

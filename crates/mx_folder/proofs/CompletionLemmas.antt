@@ -150,6 +150,7 @@ module _ (o n : Objects) (at : ℕ) (bytes : List ℕ) (may : MayComplete o at b
           ∙ ap (λ (fs : List AddedFile). files_map fs) (logged_same p)
           ∙ valid.shows p
           ∙ ap (λ (done : List Action). files_map (listed_files done)) (sym same)
+
       late : at ≤ p → files_map (logged_files n (actions_upto n p)) ≡ files_map (listed_files (actions_upto n p))
       late within =
           let same = upto_from o n at commit_same none_before may.newest action counts p within in

@@ -3,3 +3,4 @@ pub mod ReadingLemmas
 pub mod ActionLemmas
 pub mod LooseLemmas
 pub mod CompletionLemmas
+pub mod PendingLemmas

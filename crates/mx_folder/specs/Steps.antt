@@ -1,7 +1,11 @@
 -- Which changes of one object leave a table valid.
 use Rattle.std.specs.Prelude.{◌≡◌, ◌≢◌, ℕ, ◌<◌, List, All, Some, None, IsSome}
 use Rattle.mx_base.specs.Objects.{IsObjectName, object_path}
-use Rattle.mx_base.specs.declared.object_name.ObjectName.TheVariants.{Config}
+use Rattle.mx_base.specs.declared.object_name.ActionKind.TheVariants as action
+use Rattle.mx_base.specs.declared.object_name.ActionState.TheVariants.{Requested, Inflight, Completed}
+use Rattle.mx_base.specs.declared.object_name.MetadataActionKind.TheVariants as metadata
+use Rattle.mx_base.specs.declared.object_name.ObjectName.{ObjectName}
+use Rattle.mx_base.specs.declared.object_name.ObjectName.TheVariants.{Config, Timeline, Metadata, Base, Log}
 use Rattle.mx_store.specs.Objects.{Objects, at_path}
 use Rattle.mx_meta.specs.CommitText.{commit_meta_of}
 use Rattle.mx_meta.specs.ShardFiles.{delta_meta_of}
@@ -43,3 +47,19 @@ pub record MayComplete (objects : Objects) (at : ℕ) (bytes : List ℕ) : Type 
   pub delta_reads : delta_meta_of delta ≡ Some logs
   pub stand : All (λ path. IsSome (at_path objects path)) logs
   pub logged : added_at objects at ≡ files_of (record { at = at; meta = meta })
+
+-- an object that a commit of the instant makes before the one that completes it
+abbrev pub IsMadeBefore : ℕ → ObjectName → Type 0
+IsMadeBefore t Config = ⊥
+IsMadeBefore t (Timeline at action.Commit Requested) = at ≡ t
+IsMadeBefore t (Timeline at action.Commit Inflight) = at ≡ t
+IsMadeBefore t (Timeline at action.Commit Completed) = ⊥
+IsMadeBefore t (Timeline at action.Clean state) = ⊥
+IsMadeBefore t (Timeline at action.Rollback state) = ⊥
+IsMadeBefore t (Timeline at action.Indexing state) = ⊥
+IsMadeBefore t (Metadata at metadata.DeltaCommit completed) = at ≡ t
+IsMadeBefore t (Metadata at metadata.Indexing completed) = ⊥
+IsMadeBefore t (Metadata at metadata.Compaction completed) = ⊥
+IsMadeBefore t (Metadata at metadata.Clean completed) = ⊥
+IsMadeBefore t (Base part shard upto kind) = ⊥
+IsMadeBefore t (Log part shard at) = at ≡ t

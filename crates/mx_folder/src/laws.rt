@@ -1,2 +1,28 @@
-/// x
-pub fn nothing() {}
+ghost use Rattle.std.specs.Prelude.{◌≡◌, List, ℕ, Some, false};
+ghost use Rattle.mx_base.specs.Objects.{IsObjectName, object_path};
+ghost use Rattle.mx_base.specs.declared.object_name.ObjectName.{ObjectName};
+ghost use Rattle.mx_store.specs.Objects.{Objects, at_path};
+ghost use Rattle.mx_folder.specs.Named.{commit_name, is_hidden};
+ghost use Rattle.mx_folder.specs.Actions.{IsCompleted};
+ghost use Rattle.mx_folder.specs.Folder.{IsValidTable};
+ghost use Rattle.mx_folder.specs.Steps.{DifferAt, IsLoose, MayStand, IsMadeBefore, MayComplete};
+
+/// A change at a path on which nothing that counts rests keeps a table, whether an object is made there or taken away.
+pub fn loose_changes_keep_a_table()
+    ensures { (old new : Objects) (path : List ℕ) → DifferAt path old new → IsLoose old path → IsValidTable old → MayStand old new path → IsValidTable new }
+{}
+
+/// Nothing that counts rests on the objects of a commit that is not completed.
+pub fn a_pending_commit_is_loose()
+    ensures { (objects : Objects) (at : ℕ) (name : ObjectName) → IsObjectName name → IsMadeBefore at name → ¬ (IsCompleted objects at) → IsLoose objects (object_path name) }
+{}
+
+/// Nothing that counts rests on what stands outside `.hoodie/`.
+pub fn what_is_outside_is_loose()
+    ensures { (objects : Objects) (path : List ℕ) → is_hidden path ≡ false → IsLoose objects path }
+{}
+
+/// The create that completes a commit keeps a table, where the commit may be completed by it.
+pub fn a_completion_keeps_a_table()
+    ensures { (old new : Objects) (at : ℕ) (bytes : List ℕ) → MayComplete old at bytes → at_path new (object_path (commit_name at)) ≡ Some bytes → DifferAt (object_path (commit_name at)) old new → IsValidTable old → IsValidTable new }
+{}

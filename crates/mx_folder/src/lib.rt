@@ -1,7 +1,19 @@
 //! When a folder is a table: which objects it has, what their bytes are, and that its logs say what its commits list.
 //!
 //! `specs/Folder.antt` says when a folder opens (`IsOpenable`: no path shows damage) and when it is a valid table
-//! (`IsValidTable`). `specs/Reading.antt` has the kind of each object, `specs/Actions.antt` the commits that count.
+//! (`IsValidTable`). `specs/Reading.antt` has the kind of each object, `specs/Actions.antt` the commits that count. The laws
+//! say which changes of one object keep a table (`specs/Steps.antt`).
+//!
+//! | call | contract |
+//! |---|---|
+//! | `loose_changes_keep_a_table` | a law: so does a change at a path on which nothing that counts rests |
+//! | `a_pending_commit_is_loose`, `what_is_outside_is_loose` | laws: nothing that counts rests on these paths |
+//! | `a_completion_keeps_a_table` | a law: so does the create that completes a commit, the newest one, whose logs stand and say the same |
 #![tactic(auto)]
 
 mod laws;
+
+pub use laws::{
+    a_completion_keeps_a_table, a_pending_commit_is_loose, loose_changes_keep_a_table,
+    what_is_outside_is_loose,
+};

@@ -1,0 +1,131 @@
+ghost use Rattle.std.specs.Prelude.{◌≡◌, ◌↔◌, ◌&&◌, ◌||◌, ℕ, List, Bool, IsTrue, OnOk, OnErr, IfOk, Some, None, not, is_some, codes, nat_eq};
+ghost use Rattle.std.specs.BTreeSet.{contains};
+ghost use Rattle.std.specs.List.{starts_with, list_any};
+ghost use Rattle.std.specs.Ordering.{nat_cmp, eq_by_cmp};
+ghost use Rattle.std.specs.Cmp.Lexicographic.{slice_cmp};
+ghost use Rattle.std.specs.FinMap as finmap;
+ghost use Rattle.mx_base.specs.Objects.{object_path};
+ghost use Rattle.mx_base.specs.declared.object_name.ObjectName.TheVariants.{Config};
+ghost use Rattle.mx_props.specs.Config.{config_text};
+ghost use Rattle.mx_store.specs.Objects.{Objects, at_path, paths_with};
+ghost use Rattle.mx_folder.specs.Named.{is_hidden};
+ghost use Rattle.mx_folder.specs.Actions.{IsCompleted};
+ghost use Rattle.mx_mirror.specs.Mirror.{IsMirrorOf, IsNoConfig, is_commit_at, is_name_at};
+
+use mx_base::{Instant, Path};
+use mx_props::Props;
+use std::alloc::{AllocError, Global};
+use std::collections::BTreeSet;
+
+/// What is known of a folder without its bytes: its config, the names of all objects below `.hoodie/`, and which commits
+/// are completed.
+#[derive(Drop)]
+pub struct Mirror {
+    config: Props,
+    names: BTreeSet<Path>,
+    completed: BTreeSet<Instant>,
+}
+
+impl Mirror {
+    /// The mirror of the folder that has this config, and these paths below `.hoodie/`.
+    pub fn of(alloc: Global, config: Props, paths: &[Path]) -> Result<Mirror, AllocError>
+        ensures { IfOk result (λ mirror. (objects : Objects) → at_path objects (object_path Config) ≡ Some (config_text config) → paths.now ≡ paths_with (codes ".hoodie/") objects → IsMirrorOf objects mirror) }
+    {
+        Ok(Mirror {
+            config,
+            names: all_names(alloc, paths)?,
+            completed: all_commits(alloc, paths)?,
+        })
+    }
+
+    /// The config.
+    pub fn config(&self) -> &Props
+        ensures { result.now ≡ self.now.config }
+    {
+        &self.config
+    }
+
+    /// Whether an object stands at the path, which is one below `.hoodie/`.
+    pub fn holds(&self, path: &Path) -> bool
+        ensures named { result ≡ contains (slice_cmp nat_cmp) self.now.names path.now }
+        ensures stands { (objects : Objects) → IsMirrorOf objects self.now → result ≡ (is_hidden path.now && is_some (at_path objects path.now)) }
+    {
+        self.names.contains(path)
+    }
+
+    /// Whether the commit of the instant is completed.
+    pub fn is_completed(&self, at: Instant) -> bool
+        ensures { (objects : Objects) → IsMirrorOf objects self.now → IsTrue result ↔ IsCompleted objects at }
+    {
+        self.completed.contains(&at)
+    }
+
+    /// An object stands at the path from here on. Where memory runs out the mirror says what it said.
+    pub fn add(&mut self, path: &Path) -> Result<(), AllocError>
+        ensures ok { OnOk result ((objects : Objects) (bytes : List ℕ) → IsNoConfig path.now → IsMirrorOf objects self.old → IsMirrorOf (finmap.insert objects path.now bytes) self.new) }
+        ensures err { OnErr result ((objects : Objects) → at_path objects path.now ≡ None → IsMirrorOf objects self.old → IsMirrorOf objects self.new) }
+    {
+        add_commit(&mut self.completed, path)?;
+        if add_name(&mut self.names, path).is_err() {
+            remove_commit(&mut self.completed, path);
+            return Err(AllocError);
+        }
+        Ok(())
+    }
+
+    /// No object stands at the path from here on. No memory is taken.
+    pub fn remove(&mut self, path: &Path)
+        ensures { (objects : Objects) → IsNoConfig path.now → IsMirrorOf objects self.old → IsMirrorOf (finmap.remove objects path.now) self.new }
+    {
+        remove_commit(&mut self.completed, path);
+        self.names.remove(path);
+    }
+}
+
+fn add_commit(completed: &mut BTreeSet<Instant>, path: &Path) -> Result<(), AllocError>
+    ensures ok { OnOk result ((at : ℕ) → contains nat_cmp completed.new at ≡ (contains nat_cmp completed.old at || is_commit_at path.now at)) }
+    ensures err { OnErr result ((at : ℕ) → contains nat_cmp completed.new at ≡ contains nat_cmp completed.old at) }
+{
+    if let Some(at) = path.commit_instant() {
+        completed.insert(at)?;
+    }
+    Ok(())
+}
+
+fn remove_commit(completed: &mut BTreeSet<Instant>, path: &Path)
+    ensures { (at : ℕ) → contains nat_cmp completed.new at ≡ (not (is_commit_at path.now at) && contains nat_cmp completed.old at) }
+{
+    if let Some(at) = path.commit_instant() {
+        completed.remove(&at);
+    }
+}
+
+fn add_name(names: &mut BTreeSet<Path>, path: &Path) -> Result<(), AllocError>
+    ensures ok { OnOk result ((q : List ℕ) → contains (slice_cmp nat_cmp) names.new q ≡ (contains (slice_cmp nat_cmp) names.old q || is_name_at path.now q)) }
+    ensures err { OnErr result ((q : List ℕ) → contains (slice_cmp nat_cmp) names.new q ≡ contains (slice_cmp nat_cmp) names.old q) }
+{
+    if path.as_str().starts_with(".hoodie/") {
+        names.insert(path.clone()?)?;
+    }
+    Ok(())
+}
+
+fn all_names(alloc: Global, paths: &[Path]) -> Result<BTreeSet<Path>, AllocError>
+    ensures { IfOk result (λ names. (q : List ℕ) → contains (slice_cmp nat_cmp) names q ≡ list_any (λ path. is_name_at path q) paths.now) }
+{
+    let mut names = BTreeSet::new(alloc);
+    for path in paths {
+        add_name(&mut names, path)?;
+    }
+    Ok(names)
+}
+
+fn all_commits(alloc: Global, paths: &[Path]) -> Result<BTreeSet<Instant>, AllocError>
+    ensures { IfOk result (λ completed. (at : ℕ) → contains nat_cmp completed at ≡ list_any (λ path. is_commit_at path at) paths.now) }
+{
+    let mut completed = BTreeSet::new(alloc);
+    for path in paths {
+        add_commit(&mut completed, path)?;
+    }
+    Ok(completed)
+}

@@ -1,2 +1,4 @@
 pub mod MirrorLemmas
 pub mod ListedLemmas
+pub mod StateLemmas
+pub mod DrawnLemmas

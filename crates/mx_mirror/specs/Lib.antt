@@ -1,1 +1,3 @@
 pub mod Mirror
+pub mod Instants
+pub mod State

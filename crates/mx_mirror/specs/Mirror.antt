@@ -2,11 +2,14 @@
 use Rattle.std.specs.Prelude.{◌≡◌, ◌≢◌, ℕ, ◌&&◌, Bool, false, List, Some, is_some}
 use Rattle.std.specs.Option.{option_map_or}
 use Rattle.std.specs.BTreeSet.{contains}
+use Rattle.std.specs.FinMap as finmap
 use Rattle.std.specs.Ordering.{nat_cmp, eq_by_cmp}
 use Rattle.std.specs.Cmp.Lexicographic.{slice_cmp}
 use Rattle.mx_base.specs.Objects.{object_path}
 use Rattle.mx_base.specs.Paths.{commit_instant}
 use Rattle.mx_base.specs.declared.object_name.ObjectName.TheVariants.{Config}
+use Rattle.mx_store.specs.declared.change.Change.{Change}
+use Rattle.mx_store.specs.declared.change.Change.TheVariants.{Create, Put, Delete}
 use Rattle.mx_store.specs.Objects.{Objects, at_path}
 use Rattle.mx_props.specs.Config.{config_text}
 use Rattle.mx_folder.specs.Named.{object_at, commit_name, is_hidden}
@@ -29,3 +32,15 @@ is_name_at path other = is_hidden path && eq_by_cmp (slice_cmp nat_cmp) path oth
 -- the path is not the config's
 abbrev pub IsNoConfig : List ℕ → Type 0
 IsNoConfig path = path ≢ object_path Config
+
+-- a create or a delete, of another object than the config
+abbrev pub IsPlain : Change → Type 0
+IsPlain (Create path bytes) = IsNoConfig path
+IsPlain (Put path bytes) = ⊥
+IsPlain (Delete path) = IsNoConfig path
+
+-- the mirror is ready for the change: what is to be made is in it already, and what is to be taken away still is
+abbrev pub IsReadyFor : Change → Objects → Mirror → Type 0
+IsReadyFor (Create path bytes) objects mirror = IsMirrorOf (finmap.insert objects path bytes) mirror
+IsReadyFor (Put path bytes) objects mirror = ⊥
+IsReadyFor (Delete path) objects mirror = IsMirrorOf objects mirror

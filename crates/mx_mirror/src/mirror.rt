@@ -7,13 +7,15 @@ ghost use Rattle.std.specs.FinMap as finmap;
 ghost use Rattle.mx_base.specs.Objects.{object_path};
 ghost use Rattle.mx_base.specs.declared.object_name.ObjectName.TheVariants.{Config};
 ghost use Rattle.mx_props.specs.Config.{config_text};
-ghost use Rattle.mx_store.specs.Objects.{Objects, at_path, paths_with};
+ghost use Rattle.mx_store.specs.Journal.{IsAllowed};
+ghost use Rattle.mx_store.specs.Objects.{Objects, apply, at_path, paths_with};
 ghost use Rattle.mx_folder.specs.Named.{is_hidden};
 ghost use Rattle.mx_folder.specs.Actions.{IsCompleted};
-ghost use Rattle.mx_mirror.specs.Mirror.{IsMirrorOf, IsNoConfig, is_commit_at, is_name_at};
+ghost use Rattle.mx_mirror.specs.Mirror.{IsMirrorOf, IsNoConfig, IsPlain, IsReadyFor, is_commit_at, is_name_at};
 
 use mx_base::{Instant, Path};
 use mx_props::Props;
+use mx_store::Change;
 use std::alloc::{AllocError, Global};
 use std::collections::BTreeSet;
 
@@ -60,8 +62,42 @@ impl Mirror {
         self.completed.contains(&at)
     }
 
+    /// Makes ready for a change: what it makes is noted here, before the store is asked, and what it takes away stays. Where
+    /// memory runs out the mirror says what it said.
+    pub(crate) fn begin(&mut self, change: &Change) -> Result<(), AllocError>
+        requires plain { IsPlain change.now }
+        ensures ok { OnOk result ((objects : Objects) → IsAllowed objects change.now → IsMirrorOf objects self.old → IsReadyFor change.now objects self.new) }
+        ensures err { OnErr result ((objects : Objects) → IsAllowed objects change.now → IsMirrorOf objects self.old → IsMirrorOf objects self.new) }
+    {
+        match change {
+            Change::Create { path, .. } => self.add(path),
+            Change::Put { .. } => unreachable!(),
+            Change::Delete { .. } => Ok(()),
+        }
+    }
+
+    /// The change was made. No memory is taken.
+    pub(crate) fn complete(&mut self, change: &Change)
+        requires plain { IsPlain change.now }
+        ensures { (objects : Objects) → IsReadyFor change.now objects self.old → IsMirrorOf (apply change.now objects) self.new }
+    {
+        if let Change::Delete { path } = change {
+            self.remove(path);
+        }
+    }
+
+    /// The change was not made. No memory is taken.
+    pub(crate) fn give_up(&mut self, change: &Change)
+        requires plain { IsPlain change.now }
+        ensures { (objects : Objects) → IsAllowed objects change.now → IsReadyFor change.now objects self.old → IsMirrorOf objects self.new }
+    {
+        if let Change::Create { path, .. } = change {
+            self.remove(path);
+        }
+    }
+
     /// An object stands at the path from here on. Where memory runs out the mirror says what it said.
-    pub fn add(&mut self, path: &Path) -> Result<(), AllocError>
+    fn add(&mut self, path: &Path) -> Result<(), AllocError>
         ensures ok { OnOk result ((objects : Objects) (bytes : List ℕ) → IsNoConfig path.now → IsMirrorOf objects self.old → IsMirrorOf (finmap.insert objects path.now bytes) self.new) }
         ensures err { OnErr result ((objects : Objects) → at_path objects path.now ≡ None → IsMirrorOf objects self.old → IsMirrorOf objects self.new) }
     {
@@ -74,7 +110,7 @@ impl Mirror {
     }
 
     /// No object stands at the path from here on. No memory is taken.
-    pub fn remove(&mut self, path: &Path)
+    fn remove(&mut self, path: &Path)
         ensures { (objects : Objects) → IsNoConfig path.now → IsMirrorOf objects self.old → IsMirrorOf (finmap.remove objects path.now) self.new }
     {
         remove_commit(&mut self.completed, path);

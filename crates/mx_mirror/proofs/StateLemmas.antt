@@ -6,7 +6,7 @@ use Rattle.std.proofs.lemmas.List.{take-append-le}
 use Rattle.mx_base.specs.Objects.{object_path}
 use Rattle.mx_store.specs.declared.change.Change.{Change}
 use Rattle.mx_store.specs.declared.change.Change.TheVariants.{Create, Put, Delete}
-use Rattle.mx_store.specs.Calls.{with_change}
+use Rattle.mx_store.specs.Calls.{with_change, Finds}
 use Rattle.mx_store.specs.Journal.{IsAllowed}
 use Rattle.mx_store.specs.Objects.{Objects, at_path, apply, objects_of, EachSince}
 use Rattle.mx_store.proofs.Journal.{objects_of-push, EachSince-push}
@@ -18,7 +18,7 @@ use Rattle.mx_mirror.specs.Instants.{NamesInstant, AreUpto}
 use Rattle.mx_mirror.specs.Mirror.{IsMirrorOf, IsPlain, IsReadyFor}
 use Rattle.mx_mirror.specs.declared.error.ChangeError.{ChangeError}
 use Rattle.mx_mirror.specs.declared.error.ChangeError.TheVariants.{Changed}
-use Rattle.mx_mirror.specs.State.{Declines, Standing, Changes, CountsOne, CountsFaults, NamesUpto, MayChange, Holds, HoldsInDoubt, Outcomes, IsKept, StaysValid, IsLastAfter, MayMake, IsDone}
+use Rattle.mx_mirror.specs.State.{Declines, Standing, Changes, CountsOne, CountsFaults, NamesUpto, MayChange, Holds, HoldsInDoubt, Outcomes, IsKept, StaysValid, IsLastAfter, MayMake, IsDone, path_of}
 use Rattle.mx_mirror.proofs.MirrorLemmas.{mirror_same}
 
 -- ---- what a create made is taken away again
@@ -195,3 +195,68 @@ counts_declined (Create path bytes) result before now declines same = subst (λ 
 counts_declined (Put path bytes) result before now declines same = absurd declines
 counts_declined (Delete path) (Ok x) before now declines same = same
 counts_declined (Delete path) (Err e) before now declines same = absurd (cc declines)
+
+-- ---- a doubt is settled
+
+-- what is in doubt is a create or a delete, of another object than the config
+pub doubt_plain : (opening journal : Option (List Change)) (m : Mirror) (last applied : ℕ) (doubt : Option Change) (change : Change) → doubt ≡ Some change → IsKept opening journal m last applied doubt → IsPlain change
+doubt_plain None journal m last applied doubt change is kept = subst (λ (d : Option Change). IfSome d IsPlain) is kept.1
+doubt_plain (Some opening) None m last applied doubt change is kept = absurd kept
+doubt_plain (Some opening) (Some journal) m last applied doubt change is kept = let held = subst (λ (d : Option Change). Outcomes opening journal m last applied d) is kept in held.plain
+
+doubt_back_told : (opening journal : Option (List Change)) (m n : Mirror) (last applied : ℕ) (change : Change) → IsKept opening journal m last applied (Some change) → ((o : Objects) → IsAllowed o change → IsMirrorOf o m → IsMirrorOf o n)
+    → IsKept opening journal n last applied (Some change)
+doubt_back_told None journal m n last applied change kept back = kept
+doubt_back_told (Some opening) None m n last applied change kept back = absurd kept
+doubt_back_told (Some opening) (Some journal) m n last applied change kept back = record {
+  before = kept.before;
+  holds = holds_mirrored opening kept.before m n last applied (back (objects_of kept.before) kept.may.allowed kept.holds.mirror_is) kept.holds;
+  plain = kept.plain;
+  may = kept.may;
+  either = kept.either;
+}
+
+-- what is found shows which it was
+not_done : (o : Objects) (change : Change) → IsPlain change → IsAllowed o change → IsDone change (at_path o (path_of change)) → ⊥
+not_done o (Create path bytes) plain absent done = absurd (cc (sym absent ∙ done))
+not_done o (Put path bytes) plain allowed done = plain
+not_done o (Delete path) plain present gone = some_none _ present gone
+
+done : (o : Objects) (change : Change) → IsPlain change → IsDone change (at_path (apply change o) (path_of change))
+done o (Create path bytes) plain = at_same o path bytes
+done o (Put path bytes) plain = absurd plain
+done o (Delete path) plain = at_removed o path
+
+done_told : (opening journal : Option (List Change)) (m n : Mirror) (last applied : ℕ) (change : Change) (found : Option (List ℕ)) → IsKept opening journal m last applied (Some change) → Finds (path_of change) journal (Ok found) → IsDone change found
+    → ((o : Objects) → IsAllowed o change → IsMirrorOf o m → IsMirrorOf (apply change o) n) → IsKept opening journal n last (applied + 1) None
+done_told None journal m n last applied change found kept finds is made = (kept.0, tt)
+done_told (Some opening) None m n last applied change found kept finds is made = absurd kept
+done_told (Some opening) (Some journal) m n last applied change found kept finds is made = ⊎_elim
+    (λ (same : journal ≡ kept.before). absurd (not_done (objects_of kept.before) change kept.plain kept.may.allowed (subst (IsDone change) (finds ∙ ap (λ (js : List Change). at_path (objects_of js) (path_of change)) same) is)))
+    (λ (one : journal ≡ kept.before ++ change ∷ []). subst (λ (js : List Change). Holds opening js n last (applied + 1)) (sym one) (holds_made opening kept.before m n last applied change kept.holds kept.may (made (objects_of kept.before) kept.may.allowed kept.holds.mirror_is)))
+    kept.either
+
+undone_told : (opening journal : Option (List Change)) (m n : Mirror) (last applied : ℕ) (change : Change) (found : Option (List ℕ)) → IsKept opening journal m last applied (Some change) → Finds (path_of change) journal (Ok found) → ¬ (IsDone change found)
+    → ((o : Objects) → IsAllowed o change → IsMirrorOf o m → IsMirrorOf o n) → IsKept opening journal n last applied None
+undone_told None journal m n last applied change found kept finds never back = (kept.0, tt)
+undone_told (Some opening) None m n last applied change found kept finds never back = absurd kept
+undone_told (Some opening) (Some journal) m n last applied change found kept finds never back = ⊎_elim
+    (λ (same : journal ≡ kept.before). subst (λ (js : List Change). Holds opening js n last applied) (sym same) (holds_mirrored opening kept.before m n last applied (back (objects_of kept.before) kept.may.allowed kept.holds.mirror_is) kept.holds))
+    (λ (one : journal ≡ kept.before ++ change ∷ []). absurd (never (subst (IsDone change) (sym (finds ∙ ap (λ (js : List Change). at_path (objects_of js) (path_of change)) one ∙ ap (λ (o : Objects). at_path o (path_of change)) (objects_of-push kept.before change)))
+    (done (objects_of kept.before) change kept.plain))))
+    kept.either
+
+module _ (opening journal after : Option (List Change)) (m n : Mirror) (last applied : ℕ) (doubt : Option Change) (change : Change) (is : doubt ≡ Some change) (kept : IsKept opening journal m last applied doubt) (same : after ≡ journal) where
+  in_doubt : IsKept opening journal m last applied (Some change)
+  in_doubt = subst (λ (d : Option Change). IsKept opening journal m last applied d) is kept
+
+  pub settle_back : ((o : Objects) → IsAllowed o change → IsMirrorOf o m → IsMirrorOf o n) → IsKept opening after n last applied doubt
+  settle_back back =
+      subst (λ (j : Option (List Change)). IsKept opening j n last applied doubt) (sym same)
+      (subst (λ (d : Option Change). IsKept opening journal n last applied d) (sym is) (doubt_back_told opening journal m n last applied change in_doubt back))
+
+  pub settle_done : (found : Option (List ℕ)) → Finds (path_of change) journal (Ok found) → IsDone change found → ((o : Objects) → IsAllowed o change → IsMirrorOf o m → IsMirrorOf (apply change o) n) → IsKept opening after n last (applied + 1) None
+  settle_done found finds is_done made = subst (λ (j : Option (List Change)). IsKept opening j n last (applied + 1) None) (sym same) (done_told opening journal m n last applied change found in_doubt finds is_done made)
+
+  pub settle_undone : (found : Option (List ℕ)) → Finds (path_of change) journal (Ok found) → ¬ (IsDone change found) → ((o : Objects) → IsAllowed o change → IsMirrorOf o m → IsMirrorOf o n) → IsKept opening after n last applied None
+  settle_undone found finds never back = subst (λ (j : Option (List Change)). IsKept opening j n last applied None) (sym same) (undone_told opening journal m n last applied change found in_doubt finds never back)

@@ -4,7 +4,7 @@ use Rattle.mx_store.specs.declared.change.Change.{Change}
 use Rattle.mx_store.specs.declared.change.Change.TheVariants.{Create, Put, Delete}
 use Rattle.mx_store.specs.declared.store.StoreError.{StoreError}
 use Rattle.mx_store.specs.declared.store.StoreError.TheVariants as stored
-use Rattle.mx_store.specs.Calls.{with_change, Rose}
+use Rattle.mx_store.specs.Calls.{with_change, Rose, Reads}
 use Rattle.mx_store.specs.Journal.{IsAllowed}
 use Rattle.mx_store.specs.Objects.{Objects, objects_of, EachSince}
 use Rattle.mx_folder.specs.Folder.{IsValidTable}
@@ -197,3 +197,8 @@ CountsFaults before now (Err NoMemory) = now ≡ before
 abbrev pub Settles : Standing → Standing → Result Unit StoreError → Type 0
 Settles before after (Ok x) = (after.doubt ≡ None) × (after.journal ≡ before.journal) × (after.last ≡ before.last) × (before.doubt ≡ None → after ≡ before)
 Settles before after (Err e) = after ≡ before
+
+-- the doubt's path is read once
+abbrev pub ReadsDoubt : Option Change → Option (List (List ℕ)) → Option (List (List ℕ)) → Result Unit StoreError → Type 0
+ReadsDoubt None before after result = after ≡ before
+ReadsDoubt (Some change) before after result = Reads (path_of change) before after result

@@ -1,11 +1,13 @@
-ghost use Rattle.std.specs.Prelude.{◌≡◌, ℕ, ◌≤◌, max, List, Option, Some, IfSome};
+ghost use Rattle.std.specs.Prelude.{◌≡◌, ◌↔◌, IsTrue, ℕ, ◌≤◌, max, List, Option, Some, IfSome};
 ghost use Rattle.mx_store.specs.Calls.{Counts};
 ghost use Rattle.mx_store.specs.declared.change.Change.TheVariants.{Put};
+ghost use Rattle.mx_base.specs.Objects.{object_path};
+ghost use Rattle.mx_base.specs.declared.object_name.ObjectName.TheVariants.{Config};
 ghost use Rattle.mx_mirror.specs.Instants as instants;
 ghost use Rattle.mx_mirror.specs.Instants.{Requests, IsDrawnBy};
 ghost use Rattle.mx_mirror.specs.Mirror.{IsPlain};
 ghost use Rattle.mx_mirror.specs.State as spec;
-ghost use Rattle.mx_mirror.specs.State.{Makes, CountsOutcome, Declines, IsLastAfter};
+ghost use Rattle.mx_mirror.specs.State.{Makes, IsDone, CountsOutcome, Declines, IsLastAfter};
 
 use crate::error::ChangeError;
 use mx_base::{ActionState, Instant, ObjectName, Path};
@@ -69,6 +71,35 @@ pub fn declined(change: Change) -> Result<(), ChangeError>
     match change {
         Change::Create { path, .. } => Err(ChangeError::Changed { path }),
         _ => Ok(()),
+    }
+}
+
+/// Whether it is a create or a delete, and of another object than the config.
+pub fn is_plain(change: &Change) -> bool
+    ensures { IsTrue result ↔ IsPlain change.now }
+{
+    match change {
+        Change::Create { path, .. } | Change::Delete { path } => !is_config(path),
+        Change::Put { .. } => false,
+    }
+}
+
+fn is_config(path: &Path) -> bool
+    ensures { IsTrue result ↔ (path.now ≡ object_path Config) }
+{
+    ObjectName::of(path) == Some(ObjectName::Config)
+}
+
+/// Whether what a `get` found at the change's path shows that it was applied.
+pub fn is_done(change: &Change, found: &Option<Bytes>) -> bool
+    ensures { IsTrue result ↔ IsDone change.now found.now }
+{
+    match (change, found) {
+        (Change::Delete { .. }, found) => found.is_none(),
+        (Change::Create { bytes, .. } | Change::Put { bytes, .. }, Some(found)) => {
+            found.as_slice() == bytes.as_slice()
+        }
+        (_, None) => false,
     }
 }
 

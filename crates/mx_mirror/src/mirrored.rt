@@ -6,10 +6,10 @@ ghost use Rattle.mx_mirror.specs.Instants.{Requests, IsDrawnBy};
 ghost use Rattle.mx_mirror.specs.Instants as instants;
 ghost use Rattle.mx_mirror.specs.Mirror.{IsPlain};
 ghost use Rattle.mx_mirror.specs.State as spec;
-ghost use Rattle.mx_mirror.specs.State.{Declines, IsKept, StaysValid, Stands, Makes, MayMake, IsDone, Changes, CountsFaults, Settles, standing, IsLastAfter};
+ghost use Rattle.mx_mirror.specs.State.{Declines, IsKept, StaysValid, Stands, Makes, MayMake, IsDone, Changes, CountsFaults, Settles, ReadsDoubt, standing, IsLastAfter};
 
+use crate::asking::{Outcome, declined, is_done, last_after, make, path_of};
 use crate::error::ChangeError;
-use crate::asking::{Outcome, declined, last_after, make, path_of};
 use crate::mirror::Mirror;
 use mx_base::{Instant, Path};
 use mx_lists::Bytes;
@@ -30,7 +30,7 @@ pub struct Mirrored<S: Store, N: Named> {
 
 impl<S: Store, N: Named> Model for Mirrored<S, N> {
     ghost use Rattle.mx_mirror.specs.State as spec;
-ghost use Rattle.mx_mirror.specs.State.{Declines, Shown, IsKept};
+    ghost use Rattle.mx_mirror.specs.State.{Declines, Shown, IsKept};
 
     ghost Value = { Shown S };
 
@@ -154,5 +154,37 @@ impl<S: Store, N: Named> Mirrored<S, N> {
             }
         }
     }
-}
 
+    /// Settles the doubt by one `get` of its path: the change counts as applied exactly where the object stands as it leaves it. Where
+    /// none is in doubt, nothing is done.
+    pub fn settle(&mut self, alloc: Global) -> Result<(), StoreError>
+        ensures settles { Settles (standing S.journal self.old) (standing S.journal self.new) result }
+        ensures reads { ReadsDoubt self.old.doubt (S.reads self.old.store) (S.reads self.new.store) result }
+        ensures faults { Counts (S.faults self.old.store) (S.faults self.new.store) result }
+    {
+        let Some(change) = &self.doubt else {
+            return Ok(());
+        };
+        if self.applied == u64::MAX {
+            return Err(StoreError::NoMemory);
+        }
+        self.mirror.begin(change)?;
+        match self.store.get(alloc, path_of(change)) {
+            Ok(found) => {
+                if is_done(change, &found) {
+                    self.mirror.complete(change);
+                    self.applied += 1;
+                    self.doubt = None;
+                    return Ok(());
+                }
+                self.mirror.give_up(change);
+                self.doubt = None;
+                Ok(())
+            }
+            Err(error) => {
+                self.mirror.give_up(change);
+                Err(error)
+            }
+        }
+    }
+}

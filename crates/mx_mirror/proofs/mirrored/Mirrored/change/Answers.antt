@@ -39,7 +39,7 @@ pub returns-in-Declined-clause-changes : goal.returns-in-Declined-clause-changes
 returns-in-Declined-clause-changes g c =
     let may = (subst (λ w. MayMake (g.S.Store.journal w.store) w.doubt w.last c.args.change) (sym c.self.view_is) c.requires.may) in
     let made = sure_declined g.N.Named.opening _ (g.S.Store.journal c.make.new.store) c.self.inside.mirror c.self.inside.mirror c.self.inside.last c.last_after-last.result c.self.inside.applied c.args.change c.self.inside.doubt c.in_default.is c.self.invariant may
-        c.last_after-last.ensures.after c.in-Declined.ensures.makes in
+    c.last_after-last.ensures.after c.in-Declined.ensures.makes in
     subst (λ w. Changes c.args.change (standing g.S.Store.journal w) (record { journal = g.S.Store.journal c.make.new.store; last = c.last_after-last.result; applied = c.self.inside.applied; doubt = c.self.inside.doubt }) c.declined.result) c.self.view_is
     (changes_declined c.args.change c.declined.result (record { journal = g.S.Store.journal c.self.inside.store; last = c.self.inside.last; applied = c.self.inside.applied; doubt = c.self.inside.doubt })
     (record { journal = g.S.Store.journal c.make.new.store; last = c.last_after-last.result; applied = c.self.inside.applied; doubt = c.self.inside.doubt }) c.declined.ensures c.in_default.is made.0 (c.in-Declined.ensures.makes.1 ∙ made.0)

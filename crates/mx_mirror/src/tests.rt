@@ -8,6 +8,7 @@ use mx_schema::Schema;
 use mx_store::{Change, MemStore, Store, StoreError};
 use std::alloc::Global;
 use std::marker::Brand;
+use std::process::Abort;
 use std::test::Fail;
 
 // A store in memory that tells nothing, as one over a disk does.
@@ -128,39 +129,45 @@ fn change(
     })
 }
 
+// What is known once a change failed, which was applied or not, and its path was read: the count of changes, and whether its
+// name stands. Before that no other change is made, and behind it one is.
+fn settled<R: Abort + AllocGlobal>(
+    rt: &R,
+    standing: &[&str],
+    asked: Change,
+    applied: bool,
+) -> Result<(u64, bool), Fail> {
+    let alloc = rt.alloc();
+    let path = Path::parse(alloc, REQUESTED)?;
+    let other = create(alloc, COMMIT)?;
+    let again = create(alloc, COMMIT)?;
+    let fails = [(standing.len() as u64, applied)];
+    let mut table = table(alloc, standing, &fails)?;
+    let answered = change(alloc, &mut table, asked)?;
+    assert_eq!(rt; answered, "store fault");
+    let before = table.seq();
+    assert_eq!(rt; before, 0);
+    let answered = change(alloc, &mut table, other)?;
+    assert_eq!(rt; answered, "in doubt");
+    let settled = table.settle(alloc);
+    assert!(rt; settled.is_ok());
+    let seq = table.seq();
+    let stands = table.mirror().holds(&path);
+    let answered = change(alloc, &mut table, again)?;
+    assert_eq!(rt; answered, "made");
+    Ok((seq, stands))
+}
+
 #[test]
 fn a_change_that_fails_is_in_doubt_until_its_path_is_read(rt: HostRuntime) -> Result<(), Fail> {
     let alloc = rt.alloc();
-    // whether it is a create, whether the failed call was applied; then the changes counted, and whether the name stands
-    const CASES: [(bool, bool, u64, bool); 4] = [
-        (true, true, 1, true),
-        (true, false, 0, false),
-        (false, true, 1, false),
-        (false, false, 0, true),
-    ];
-    for (creates, applied, seq, stands) in CASES {
-        let standing: &[&str] = if creates { &[] } else { &[REQUESTED] };
-        let call = standing.len() as u64;
-        let mut table = table(alloc, standing, &[(call, applied)])?;
-        let asked = if creates {
-            create(alloc, REQUESTED)?
-        } else {
-            delete(alloc, REQUESTED)?
-        };
-        assert_eq!(rt; change(alloc, &mut table, asked)?, "store fault");
-        assert_eq!(rt; table.seq(), 0);
-        assert_eq!(rt;
-            change(alloc, &mut table, create(alloc, COMMIT)?)?,
-            "in doubt"
-        );
-        assert!(rt; table.settle(alloc).is_ok());
-        assert_eq!(rt; table.seq(), seq);
-        assert_eq!(rt;
-            table.mirror().holds(&Path::parse(alloc, REQUESTED)?),
-            stands
-        );
-        assert_eq!(rt; change(alloc, &mut table, create(alloc, COMMIT)?)?, "made");
-        assert_eq!(rt; table.seq(), seq.saturating_add(1));
+    for (applied, seq, stands) in [(true, 1, true), (false, 0, false)] {
+        let known = settled(&rt, &[], create(alloc, REQUESTED)?, applied)?;
+        assert_eq!(rt; known, (seq, stands), "a create, applied {applied}");
+    }
+    for (applied, seq, stands) in [(true, 1, false), (false, 0, true)] {
+        let known = settled(&rt, &[REQUESTED], delete(alloc, REQUESTED)?, applied)?;
+        assert_eq!(rt; known, (seq, stands), "a delete, applied {applied}");
     }
     Ok(())
 }

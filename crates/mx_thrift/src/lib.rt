@@ -1,0 +1,12 @@
+//! Structs.
+#![tactic(auto)]
+
+mod error;
+mod header;
+mod kind;
+mod numbers;
+mod reading;
+mod value;
+
+pub use error::ThriftError;
+pub use value::{Field, Fields, Value};

@@ -166,23 +166,29 @@ head_in last bytes = byte_in bytes >>= λ b.
     else if nat_lt b.0 16 then long_head_in (length bytes) b.0 b.1
     else short_head_in (length bytes) (b.0 % 16) (last +ℤ pos (b.0 / 16)) b.1
 
--- the value of a field
-abbrev pub field_in : (Kind → Reader Value) → ℕ → Kind → Reader Value
-field_in inner code kinds.Flag bytes = Ok (values.Flag (code == 1), bytes)
-field_in inner code kind bytes = inner kind bytes
+-- the value of a field; that of a truth value stands in the header
+abbrev pub held_in : (Kind → Reader Value) → ℕ → Kind → Reader Value
+held_in inner code kinds.Flag bytes = Ok (values.Flag (code == 1), bytes)
+held_in inner code kind bytes = inner kind bytes
 
--- a field behind its header, and the fields behind it
-abbrev pub fields_behind : (Kind → Reader Value) → (ℤ → Reader (List Field)) → Option Header → Reader (List Field)
-fields_behind inner more None bytes = Ok ([], bytes)
-fields_behind inner more (Some head) bytes = do
-  value ← field_in inner head.code head.kind bytes
-  fields ← more head.id value.1
-  Ok (record { id = head.id; value = value.0 } ∷ fields.0, fields.1)
+-- the field behind a header, if that is one
+abbrev pub field_behind : (Kind → Reader Value) → Option Header → Reader (Option Field)
+field_behind inner None bytes = Ok (None, bytes)
+field_behind inner (Some head) bytes = held_in inner head.code head.kind bytes >>= λ value. Ok (Some (record { id = head.id; value = value.0 }), value.1)
+
+-- the field behind the one with the last id, or none at the end of the struct
+unfoldable pub field_in : (Kind → Reader Value) → ℤ → Reader (Option Field)
+field_in inner last bytes = head_in last bytes >>= λ head. field_behind inner head.0 head.1
+
+-- a field that was read, if one was, and the fields behind it
+abbrev pub more_fields : (ℤ → Reader (List Field)) → Option Field → Reader (List Field)
+more_fields more None bytes = Ok ([], bytes)
+more_fields more (Some field) bytes = more field.id bytes >>= λ fields. Ok (field ∷ fields.0, fields.1)
 
 -- fewer than so many fields, each of which has a byte at least
 unfoldable pub fields_in : (Kind → Reader Value) → ℕ → ℤ → Reader (List Field)
 fields_in inner zero last bytes = broken rules.Short bytes
-fields_in inner (suc most) last bytes = head_in last bytes >>= λ head. fields_behind inner (fields_in inner most) head.0 head.1
+fields_in inner (suc most) last bytes = field_in inner last bytes >>= λ field. more_fields (fields_in inner most) field.0 field.1
 
 -- a struct
 abbrev pub struct_in : (Kind → Reader Value) → Reader (List Field)

@@ -51,7 +51,12 @@ fn long_header(left: usize, code: u8, bytes: &[u8]) -> Result<(Option<Header>, &
     Ok((Some(Header { code, kind, id }), rest))
 }
 
-fn short_header(left: usize, code: u8, id: i32, bytes: &[u8]) -> Result<(Option<Header>, &[u8]), Fault>
+fn short_header(
+    left: usize,
+    code: u8,
+    id: i32,
+    bytes: &[u8],
+) -> Result<(Option<Header>, &[u8]), Fault>
     ensures { Gives (λ x. (x.0, x.1.now)) result (short_head_in left code id bytes.now) }
 {
     let Ok(id) = i16::try_from(id) else {
@@ -81,10 +86,12 @@ pub(crate) fn no_items(left: usize, high: u8, bytes: &[u8]) -> Result<&[u8], Fau
 {
     match said_count(high, bytes) {
         Ok((0, rest)) => Ok(rest),
-        Err(Fault::Broken {
-            rule: Rule::Short,
-            left,
-        }) => Err(Fault::Broken {
+        Err(
+            Fault::Broken {
+                rule: Rule::Short,
+                left,
+            },
+        ) => Err(Fault::Broken {
             rule: Rule::Short,
             left,
         }),

@@ -9,4 +9,5 @@ mod reading;
 mod value;
 
 pub use error::ThriftError;
+pub use reading::read_struct;
 pub use value::{Field, Fields, Value};

@@ -1,2 +1,4 @@
 pub mod Groups
 pub mod Turns
+pub mod Forms
+pub mod Sent

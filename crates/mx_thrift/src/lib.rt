@@ -7,7 +7,9 @@ mod kind;
 mod numbers;
 mod reading;
 mod value;
+mod writing;
 
 pub use error::ThriftError;
 pub use reading::read_struct;
 pub use value::{Field, Fields, Value};
+pub use writing::write_struct;

@@ -7,7 +7,7 @@ use crate::kind::{Kind, kind_of};
 use crate::numbers::{
     broken, byte_of, count_of, eight_of, int_of, long_of, short_of, signed_byte, text_of,
 };
-use crate::value::{Field, Fields, Value};
+use crate::value::{Field, Fields, Value, id_of};
 use mx_lists::Bytes;
 use sqlite_items::Items;
 use std::alloc::Global;
@@ -251,12 +251,6 @@ fn struct_of(alloc: Global, bytes: &[u8], inner: u8) -> Result<(Fields, &[u8]), 
         fields.push(field)?;
     }
     broken(Rule::Short, rest)
-}
-
-fn id_of(field: &Field) -> i16
-    ensures { result ≡ field.now.id }
-{
-    field.id
 }
 
 /// The field behind the one with the last id, or none at the end of the struct.

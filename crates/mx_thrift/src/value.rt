@@ -1,3 +1,5 @@
+ghost use Rattle.std.specs.Prelude.{◌≡◌};
+
 use mx_lists::Bytes;
 use sqlite_items::Items;
 
@@ -40,3 +42,9 @@ pub struct Field {
 
 /// The fields of a struct, in reading order.
 pub type Fields = Items<Field>;
+
+pub(crate) fn id_of(field: &Field) -> i16
+    ensures { result ≡ field.now.id }
+{
+    field.id
+}

@@ -2,3 +2,4 @@ pub mod Groups
 pub mod Turns
 pub mod Forms
 pub mod Sent
+pub mod Codecs

@@ -3,3 +3,5 @@ pub mod Turns
 pub mod Forms
 pub mod Sent
 pub mod Codecs
+pub mod Lists
+pub mod Structs

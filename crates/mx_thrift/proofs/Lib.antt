@@ -5,3 +5,4 @@ pub mod Sent
 pub mod Codecs
 pub mod Lists
 pub mod Structs
+pub mod Values

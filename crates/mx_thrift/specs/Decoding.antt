@@ -238,3 +238,8 @@ abbrev pub Answers : {A : Type 0} → Result A ThriftError → Result A ThriftEr
 Answers (Ok x) read = read ≡ Ok x
 Answers (Err errors.NoMemory) read = Unit {0}
 Answers (Err e) read = read ≡ Err e
+
+-- the answer is this one, unless memory ran out
+abbrev pub IsOnly : {A : Type 0} → A → Result A ThriftError → Type 0
+IsOnly x (Ok y) = y ≡ x
+IsOnly x (Err e) = e ≡ errors.NoMemory

@@ -1,5 +1,8 @@
-ghost use Rattle.std.specs.Prelude.{◌≡◌, ◌+◌, ◌-◌, ◌<◌, ◌^◌, drop};
-ghost use Rattle.mx_thrift.specs.Decoding.{Gives, Answers, error_at, leaf_in, list_in, map_in, held_in, field_in, struct_in, in_turn, both, over_in, value_in, struct_at};
+ghost use Rattle.std.specs.Prelude.{◌≡◌, ◌+◌, ◌-◌, ◌<◌, ◌^◌, ◌++◌, ℕ, List, length, drop, IfOk};
+ghost use Rattle.mx_avro.specs.Decoding.{StandsAt};
+ghost use Rattle.mx_thrift.specs.declared.value.Field.{Field};
+ghost use Rattle.mx_thrift.specs.Grammar.{Decodes};
+ghost use Rattle.mx_thrift.specs.Decoding.{Gives, Answers, IsOnly, error_at, leaf_in, list_in, map_in, held_in, field_in, struct_in, in_turn, both, over_in, value_in, struct_at};
 
 use crate::error::{Fault, Rule, ThriftError};
 use crate::header::{Header, header_of, no_items, said_count, types_of};
@@ -17,6 +20,9 @@ const MOST_INSIDE: u8 = 15;
 
 /// The struct that begins at a place, and the place behind it.
 pub fn read_struct(alloc: Global, bytes: &[u8], at: usize) -> Result<(Fields, usize), ThriftError>
+    ensures found { IfOk result (λ x. (text : List ℕ) × StandsAt bytes.now at text x.1 × Decodes text x.0) }
+    ensures only { (fields : List Field) (text rest : List ℕ) → drop at bytes.now ≡ text ++ rest → Decodes text fields
+        → IsOnly (fields, at + length text) result }
     ensures exact { Answers result (struct_at bytes.now at) }
 {
     read(alloc, bytes, at)

@@ -6,3 +6,5 @@ pub mod Codecs
 pub mod Lists
 pub mod Structs
 pub mod Values
+pub mod Written
+pub mod Back

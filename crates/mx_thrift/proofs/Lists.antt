@@ -213,7 +213,7 @@ module _ {inner : Kind → Reader Value} {Inner : Kind → Grammar Value} (codec
             };
           })
 
--- ---- maps
+  -- ---- maps
 
   types_again : (key value : ℕ) (key_kind value_kind : Kind) (rest : List ℕ) → kind_of_code key ≡ Some key_kind → kind_of_code value ≡ Some value_kind
       → types_in ((16 * key + value) ∷ rest) ≡ Ok (((key, value), (key_kind, value_kind)), rest)
@@ -252,12 +252,14 @@ module _ {inner : Kind → Reader Value} {Inner : Kind → Grammar Value} (codec
       let k = bind_ok (in_turn (both (inner h.0.0.1.0) (inner h.0.0.1.1)) count h.0.1) (λ pairs. Ok ((h.0.0.0, pairs.0), pairs.1)) x h.2 in
       let byte = 16 * h.0.0.0.0 + h.0.0.0.1 in
       let u = turn_takes (both_codec (codec h.0.0.1.0) (codec h.0.0.1.1)) count h.0.1 k.0 (behind_fits (byte ∷ []) h.0.1 bytes t.parts bs) k.1 in
-      subst (λ (y : ((ℕ × ℕ) × List (Value × Value)) × List ℕ). Took (λ bytes x. DecodesPairs Inner bytes x.0 x.1) bytes y × (length y.0.1 ≡ count)) (ok_is _ _ k.2)
-      (record {
-        text = byte ∷ u.0.text;
-        parts = t.parts ∙ ap (λ (r : List ℕ). byte ∷ r) u.0.parts;
-        means = record { body = u.0.text; key_kind = h.0.0.1.0; value_kind = h.0.0.1.1; parts = refl; key = t.key; value = t.value; each = u.0.means };
-      }, u.1)
+      subst (λ (y : ((ℕ × ℕ) × List (Value × Value)) × List ℕ). Took (λ bytes x. DecodesPairs Inner bytes x.0 x.1) bytes y × (length y.0.1 ≡ count)) (ok_is _ _ k.2) (
+        record {
+          text = byte ∷ u.0.text;
+          parts = t.parts ∙ ap (λ (r : List ℕ). byte ∷ r) u.0.parts;
+          means = record { body = u.0.text; key_kind = h.0.0.1.0; value_kind = h.0.0.1.1; parts = refl; key = t.key; value = t.value; each = u.0.means };
+        },
+        u.1,
+      )
 
   pub map_codec : Codec (map_in inner) (λ bytes x. DecodesMap Inner bytes x.0 x.1)
   unfolding map_in

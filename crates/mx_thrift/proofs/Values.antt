@@ -88,3 +88,7 @@ only bytes at (Err (errors.Short place)) fields text rest h e g = absurd (let bo
 only bytes at (Err (errors.Wide place)) fields text rest h e g = absurd (let both = sym h ∙ struct_again bytes at fields text rest e g in cc)
 only bytes at (Err (errors.BadType place)) fields text rest h e g = absurd (let both = sym h ∙ struct_again bytes at fields text rest e g in cc)
 only bytes at (Err (errors.Deep place)) fields text rest h e g = absurd (let both = sym h ∙ struct_again bytes at fields text rest e g in cc)
+
+-- what was written reads back
+pub reads_back : (fields : List Field) (text front rest : List ℕ) → Decodes text fields → struct_at (front ++ (text ++ rest)) (length front) ≡ Ok (fields, length front + length text)
+reads_back fields text front rest g = struct_again (front ++ (text ++ rest)) (length front) fields text rest (drop-append_seam front (text ++ rest)) g

@@ -4,7 +4,8 @@ use Rattle.std.specs.Int.RustNames.{FitsSigned}
 use Rattle.std.specs.Int.{w16, w32, w64}
 use Rattle.std.specs.List.{AllByRecursion}
 use Rattle.mx_avro.specs.Encoding.{groups, long_encoding}
-use Rattle.mx_thrift.specs.declared.value.Value.{Value, out-Value}
+use Rattle.mx_thrift.specs.declared.value.Value.{Value}
+use Rattle.mx_thrift.specs.declared.value.Value.TheVariants as values
 use Rattle.mx_thrift.specs.declared.value.Value.TheOpen.{Value-F, Field-F}
 use Rattle.mx_thrift.specs.declared.value.Value.TheOpen as layers
 use Rattle.mx_thrift.specs.declared.value.Value.TheFolds.{fold-Value, fold-Field}
@@ -71,3 +72,51 @@ written_field = fold-Field (ℕ × List ℕ) Written layer_form field_form
 -- the form that is written
 abbrev pub written : List Field → List ℕ
 written fields = struct_bytes (pos 0) (map written_field fields)
+
+-- a number of 32 bits
+abbrev pub IsInt : Value → Type 0
+IsInt v = (n : ℤ) × FitsSigned w32 n × (v ≡ values.Int n)
+
+-- a number of 64 bits
+abbrev pub IsLong : Value → Type 0
+IsLong v = (n : ℤ) × FitsSigned w64 n × (v ≡ values.Long n)
+
+-- a byte string below 2 GiB
+abbrev pub IsBytes : Value → Type 0
+IsBytes v = (text : List ℕ) × (length text < 2 ^ 31) × (v ≡ values.Bytes text)
+
+-- the type's code of an int, a long, a byte string or a struct
+abbrev pub IsItemCode : ℕ → Type 0
+IsItemCode code = (code ≡ 5) ⊎ ((code ≡ 6) ⊎ ((code ≡ 8) ⊎ (code ≡ 12)))
+
+-- fewer than 2^31 items, all of the one type that is named
+abbrev pub IsListOf : (ℕ → Value → Type 0) → Value → Type 0
+IsListOf Inner v = (kind : ℕ) × (items : List Value) × IsItemCode kind × (length items < 2 ^ 31) × AllByRecursion (Inner kind) items × (v ≡ values.List kind items)
+
+-- each id is 1 to 15 above the one before it, and the values can be written
+abbrev pub FieldsRise : (ℕ → Value → Type 0) → ℤ → List Field → Type 0
+FieldsRise Inner last [] = Unit {0}
+FieldsRise Inner last (field ∷ fields) =
+    (gap : ℕ) × (0 < gap) × (gap < 16) × (field.id ≡ last +ℤ pos gap) × FitsSigned w16 field.id × ((code : ℕ) × Inner code field.value) × FieldsRise Inner field.id fields
+
+-- a struct, whose first id is from 1 to 15
+abbrev pub IsStructOf : (ℕ → Value → Type 0) → Value → Type 0
+IsStructOf Inner v = (fields : List Field) × FieldsRise Inner (pos 0) fields × (v ≡ values.Struct fields)
+
+-- a value of the type with that code that can be written and holds no other
+abbrev pub IsWritableLeaf : ℕ → Value → Type 0
+IsWritableLeaf code v = ((code ≡ 5) × IsInt v) ⊎ (((code ≡ 6) × IsLong v) ⊎ ((code ≡ 8) × IsBytes v))
+
+-- the same, or a list or a struct
+abbrev pub IsWritableOver : (ℕ → Value → Type 0) → ℕ → Value → Type 0
+IsWritableOver Inner code v = IsWritableLeaf code v ⊎ (((code ≡ 9) × IsListOf Inner v) ⊎ ((code ≡ 12) × IsStructOf Inner v))
+
+-- a value that can be written, with at most so many lists and structs inside each other
+unfoldable pub IsWritableValue : ℕ → ℕ → Value → Type 0
+IsWritableValue zero = IsWritableLeaf
+IsWritableValue (suc depth) = IsWritableOver (IsWritableValue depth)
+
+-- a struct that can be written: its ids rise by 1 to 15, its values are of the five types, lengths are below 2^31, and
+-- at most 16 lists and structs stand inside each other
+abbrev pub IsWritable : List Field → Type 0
+IsWritable = FieldsRise (IsWritableValue 15) (pos 0)

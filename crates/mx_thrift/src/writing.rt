@@ -1,14 +1,26 @@
-ghost use Rattle.std.specs.Prelude.{◌≡◌, ◌++◌, ◌<◌, ◌^◌, ◌-ℤ◌, length, map, flat_map, IfOk, OnOk, [], ◌∷◌, pos};
+ghost use Rattle.std.specs.Prelude.{◌≡◌, ℕ, ◌+◌, List, Ok, ◌++◌, ◌<◌, ◌^◌, ◌-ℤ◌, length, map, flat_map, IfOk, OnOk, [], ◌∷◌, pos};
 ghost use Rattle.mx_avro.specs.Encoding.{zigzag, groups, long_encoding};
-ghost use Rattle.mx_thrift.specs.Encoding.{count_bytes, list_head, small_gap, struct_bytes, written_value, written_field, written};
+ghost use Rattle.mx_thrift.specs.Encoding.{count_bytes, list_head, small_gap, struct_bytes, written_value, written_field, written, IsWritable};
+ghost use Rattle.mx_thrift.specs.Grammar.{Decodes};
+ghost use Rattle.mx_thrift.specs.Decoding.{struct_at};
 
 use crate::value::{Field, Fields, Value, id_of};
-use mx_avro::{put_long};
+use mx_avro::put_long;
 use std::alloc::{AllocError, Global};
 
-/// The one written form of a struct.
+/// The one written form of a struct, which reads back at any place and whatever follows.
 pub fn write_struct(alloc: Global, fields: &Fields) -> Result<Vec<u8>, AllocError>
+    requires { IsWritable fields.now }
     ensures bytes { IfOk result (λ out. out.items ≡ written fields.now) }
+    ensures decodes { IfOk result (λ out. Decodes out.items fields.now) }
+    ensures reads { IfOk result (λ out. (front rest : List ℕ) → struct_at (front ++ (out.items ++ rest)) (length front)
+        ≡ Ok (fields.now, length front + length out.items)) }
+{
+    put_fields(alloc, fields)
+}
+
+fn put_fields(alloc: Global, fields: &Fields) -> Result<Vec<u8>, AllocError>
+    ensures { IfOk result (λ out. out.items ≡ written fields.now) }
 {
     let mut out = Vec::new(alloc);
     put_struct(&mut out, fields.as_slice())?;

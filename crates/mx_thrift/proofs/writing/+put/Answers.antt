@@ -18,7 +18,7 @@ pub put_value-returns-in-Bytes : goal.put_value-returns-in-Bytes
 put_value-returns-in-Bytes t c = sent c.put_text.result c.args.value.now _ _ c.args.out.now.items c.put_text.new.out.items c.in-Bytes.is (form-Bytes _) (rw c.as_slice.ensures at c.put_text.ensures)
 
 pub put_value-returns-in_ok-put_list_head-in-List : goal.put_value-returns-in_ok-put_list_head-in-List
-put_value-returns-in_ok-put_list_head-in-List t c = 
+put_value-returns-in_ok-put_list_head-in-List t c =
     let items = c.in-List.items in
     sent c.put_items.result c.args.value.now _ _ c.args.out.now.items c.put_items.new.out.items c.in-List.is (form-List _ _)
     (sent_list c.put_items.result items c.as_slice-in-List.result.now c.in-List.kind c.len.result c.args.out.now.items c.put_list_head.new.out.items c.put_items.new.out.items c.len.ensures c.as_slice-in-List.ensures c.in_ok-put_list_head-in-List.ensures c.put_items.ensures)

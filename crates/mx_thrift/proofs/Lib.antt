@@ -8,3 +8,4 @@ pub mod Structs
 pub mod Values
 pub mod Written
 pub mod Back
+pub mod Can

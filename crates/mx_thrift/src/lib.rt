@@ -6,6 +6,8 @@ mod header;
 mod kind;
 mod numbers;
 mod reading;
+#[cfg(test)]
+mod tests;
 mod value;
 mod writing;
 

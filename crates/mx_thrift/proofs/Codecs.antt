@@ -1,14 +1,14 @@
 -- A reader gives what bytes stand for, whatever follows, and takes from the front bytes that stand for what it gives.
-use Rattle.std.proofs.Common.{◌≡◌, ℕ, zero, suc, ◌+◌, ◌-◌, ◌*◌, ◌/◌, ◌%◌, ◌^◌, ◌<◌, ◌≤◌, ℤ, pos, negsuc, Bool, true, false, cond, eqb, ltb, List, [], ◌∷◌, ◌++◌, length, take, drop, Result, Ok, Err, refl, sym, ap, subst, ◌∙◌, append_assoc, length-append, take-append-drop, length-take, arith, inl, inr, ◌⊎◌}
+use Rattle.std.proofs.Common.{◌≡◌, ℕ, zero, suc, ◌+◌, ◌*◌, ◌/◌, ◌%◌, ◌^◌, ◌<◌, ◌≤◌, ℤ, pos, negsuc, Bool, true, false, cond, eqb, ltb, List, [], ◌∷◌, ◌++◌, length, take, drop, Ok, Err, refl, sym, ap, subst, ◌∙◌, append_assoc, length-append, take-append-drop, length-take, arith, inl, inr, ◌⊎◌}
 use Rattle.std.proofs.lemmas.Bool.{cases_eq, ltb-true, ltb-false, lt-ltb, le-ltb}
 use Rattle.std.proofs.lemmas.Bool.Decides.{nat_tests}
 use Rattle.std.proofs.Math.Seq.{drop-append_seam, take-append_seam}
 use Rattle.mx_avro.specs.Encoding.{zigzag}
 use Rattle.mx_avro.specs.Decoding.{signed}
-use Rattle.mx_avro.proofs.Groups.{IsBytes, chosen}
+use Rattle.mx_avro.proofs.Groups.{IsBytes}
 use Rattle.mx_thrift.specs.declared.error.Rule.{Rule}
 use Rattle.mx_thrift.specs.declared.error.Rule.TheVariants as rules
-use Rattle.mx_thrift.specs.Grammar.{Grammar, IsGroups, groups_value, IsNumber, IsSigned, IsCount, IsText, InTurn, InPairs}
+use Rattle.mx_thrift.specs.Grammar.{Grammar, IsGroups, groups_value, IsNumber, IsSigned, IsText, InTurn, InPairs}
 use Rattle.mx_thrift.specs.Decoding.{◌>>=◌, Read, Reader, broken, mapped, both, in_turn, byte_in, eight_in, joined, groups_in, number_in, signed_in, count_in, text_in}
 
 -- what a reader took from the front

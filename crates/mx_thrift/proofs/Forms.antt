@@ -1,5 +1,5 @@
 -- The written form of each value.
-use Rattle.std.proofs.Common.{◌≡◌, ℕ, ℤ, pos, List, [], ◌∷◌, ◌++◌, length, map, flat_map, refl, ap, ◌∙◌, sym}
+use Rattle.std.proofs.Common.{◌≡◌, ℕ, ℤ, pos, List, [], ◌++◌, length, map, flat_map, ap, ◌∙◌, sym}
 use Rattle.mx_avro.specs.Encoding.{long_encoding}
 use Rattle.mx_thrift.specs.declared.value.Value.{Value}
 use Rattle.mx_thrift.specs.declared.value.Value.TheViews.{roll-Value, out-Value, roll-out-Value}

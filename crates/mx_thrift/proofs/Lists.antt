@@ -1,16 +1,15 @@
 -- Values that hold no other, lists, sets and maps: what is read of them is what their bytes stand for.
-use Rattle.std.proofs.Common.{◌≡◌, ℕ, zero, suc, ◌+◌, ◌-◌, ◌*◌, ◌/◌, ◌%◌, ◌^◌, ◌<◌, ◌≤◌, Bool, true, false, cond, eqb, ltb, List, [], ◌∷◌, ◌++◌, length, Option, Some, None, Result, Ok, Err, refl, sym, ap, subst, ◌∙◌, append_assoc, arith, inl, inr, ◌⊎◌}
-use Rattle.std.proofs.lemmas.Bool.{cases_eq, cases_lt, eqb-true, ltb-true, ltb-false, lt-ltb, le-ltb}
+use Rattle.std.proofs.Common.{◌≡◌, ℕ, zero, suc, ◌+◌, ◌*◌, ◌/◌, ◌%◌, ◌^◌, ◌<◌, ◌≤◌, true, false, cond, eqb, ltb, List, [], ◌∷◌, ◌++◌, length, Option, Some, None, Ok, Err, refl, sym, ap, subst, ◌∙◌, append_assoc, arith, inl, inr, ◌⊎◌}
+use Rattle.std.proofs.lemmas.Bool.{cases_eq, cases_lt, lt-ltb, le-ltb}
 use Rattle.std.proofs.lemmas.Bool.Decides.{nat_tests}
 use Rattle.mx_avro.proofs.Groups.{IsBytes}
-use Rattle.mx_thrift.specs.declared.error.Rule.{Rule}
 use Rattle.mx_thrift.specs.declared.error.Rule.TheVariants as rules
 use Rattle.mx_thrift.specs.declared.kind.Kind.{Kind}
 use Rattle.mx_thrift.specs.declared.kind.Kind.TheVariants as kinds
 use Rattle.mx_thrift.specs.declared.value.Value.{Value}
 use Rattle.mx_thrift.specs.declared.value.Value.TheVariants as values
 use Rattle.mx_thrift.specs.Types.{kind_of_code}
-use Rattle.mx_thrift.specs.Grammar.{Grammar, IsNumber, IsCount, InTurn, InPairs, signed_byte, DecodesLeaf, IsListHead, AreItems, DecodesList, DecodesPairs, DecodesPairsIf, DecodesMap}
+use Rattle.mx_thrift.specs.Grammar.{Grammar, IsCount, signed_byte, DecodesLeaf, IsListHead, AreItems, DecodesList, DecodesPairs, DecodesPairsIf, DecodesMap}
 use Rattle.mx_thrift.specs.Decoding.{◌>>=◌, Read, Reader, broken, both, in_turn, byte_in, count_in, leaf_in, named_from, said_in, without, items_in, list_in, types_in, pairs_in, map_in}
 use Rattle.mx_thrift.proofs.Codecs.{Took, Codec, bind_ok, ok_is, behind_fits, regroup, byte_takes, number_codec, signed_codec, text_codec, eight_codec, mapped_codec, stated, turn_again, turn_takes, both_codec}
 

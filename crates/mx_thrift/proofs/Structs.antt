@@ -1,23 +1,21 @@
 -- Fields and structs: what is read of them is what their bytes stand for.
-use Rattle.std.proofs.Common.{◌≡◌, ℕ, zero, suc, ◌+◌, ◌-◌, ◌*◌, ◌/◌, ◌%◌, ◌^◌, ◌<◌, ◌≤◌, ℤ, pos, negsuc, ◌+ℤ◌, Bool, true, false, cond, eqb, ltb, List, [], ◌∷◌, ◌++◌, length, Option, Some, None, Result, Ok, Err, refl, sym, ap, subst, ◌∙◌, append_assoc, length-append, arith, inl, inr, ◌⊎◌}
-use Rattle.std.proofs.lemmas.Bool.{cases_eq, cases_lt, eqb-true, ltb-true, ltb-false, lt-ltb, le-ltb}
+use Rattle.std.proofs.Common.{◌≡◌, ℕ, zero, suc, ◌+◌, ◌*◌, ◌/◌, ◌%◌, ◌^◌, ◌<◌, ◌≤◌, ℤ, pos, negsuc, ◌+ℤ◌, Bool, true, false, cond, eqb, ltb, List, [], ◌∷◌, ◌++◌, length, Option, Some, None, Ok, Err, refl, sym, ap, subst, ◌∙◌, append_assoc, length-append, arith, inl, inr}
+use Rattle.std.proofs.lemmas.Bool.{cases_eq, cases_lt, ltb-true, lt-ltb, le-ltb}
 use Rattle.std.proofs.lemmas.Bool.Decides.{nat_tests}
 use Rattle.std.proofs.lemmas.Int.{ints}
 use Rattle.std.specs.Int.RustNames.{FitsSigned}
 use Rattle.std.specs.Int.{w16}
 use Rattle.mx_avro.proofs.Groups.{IsBytes}
-use Rattle.mx_thrift.specs.declared.error.Rule.{Rule}
 use Rattle.mx_thrift.specs.declared.error.Rule.TheVariants as rules
 use Rattle.mx_thrift.specs.declared.header.Header.{Header}
 use Rattle.mx_thrift.specs.declared.kind.Kind.{Kind}
 use Rattle.mx_thrift.specs.declared.kind.Kind.TheVariants as kinds
 use Rattle.mx_thrift.specs.declared.value.Value.{Value}
-use Rattle.mx_thrift.specs.declared.value.Value.TheVariants as values
 use Rattle.mx_thrift.specs.declared.value.Field.{Field}
 use Rattle.mx_thrift.specs.Types.{kind_of_code}
-use Rattle.mx_thrift.specs.Grammar.{Grammar, IsNumber, IsFieldHead, IsSigned, DecodesField, IsField, DecodesFields}
-use Rattle.mx_thrift.specs.Decoding.{◌>>=◌, Read, Reader, broken, byte_in, signed_in, named_from, is_id, long_head_in, short_head_in, head_in, held_in, field_behind, field_in, more_fields, fields_in, struct_in}
-use Rattle.mx_thrift.proofs.Codecs.{Took, Codec, bind_ok, guarded, ok_is, behind_fits, regroup, byte_takes, signed_codec}
+use Rattle.mx_thrift.specs.Grammar.{Grammar, IsFieldHead, DecodesField, IsField, DecodesFields}
+use Rattle.mx_thrift.specs.Decoding.{◌>>=◌, Read, Reader, byte_in, signed_in, named_from, is_id, long_head_in, short_head_in, head_in, held_in, field_behind, field_in, more_fields, fields_in, struct_in}
+use Rattle.mx_thrift.proofs.Codecs.{Took, Codec, bind_ok, ok_is, behind_fits, regroup, byte_takes, signed_codec}
 use Rattle.mx_thrift.proofs.Lists.{kind_small, named_ok}
 
 -- ---- headers

@@ -1,5 +1,5 @@
 -- Values of any depth, and the struct at a place.
-use Rattle.std.proofs.Common.{◌≡◌, ℕ, zero, suc, ◌+◌, ◌-◌, ◌<◌, ◌≤◌, pos, List, [], ◌∷◌, ◌++◌, length, drop, Result, Ok, Err, refl, sym, ap, subst, ◌∙◌, length-append, length-drop, drop-drop, arith}
+use Rattle.std.proofs.Common.{◌≡◌, ℕ, zero, suc, ◌+◌, ◌-◌, List, ◌++◌, length, drop, Result, Ok, Err, refl, sym, ap, subst, ◌∙◌, length-append, drop-drop, arith}
 use Rattle.std.proofs.Math.Seq.{drop-append_seam}
 use Rattle.std.proofs.lemmas.List.{get_or-drop}
 use Rattle.std.specs.Prelude.{IfOk}
@@ -12,9 +12,9 @@ use Rattle.mx_thrift.specs.declared.kind.Kind.TheVariants as kinds
 use Rattle.mx_thrift.specs.declared.value.Value.{Value}
 use Rattle.mx_thrift.specs.declared.value.Value.TheVariants as values
 use Rattle.mx_thrift.specs.declared.value.Field.{Field}
-use Rattle.mx_thrift.specs.Grammar.{Grammar, DecodesList, DecodesMap, DecodesOver, DecodesFields, DecodesValue, Decodes}
+use Rattle.mx_thrift.specs.Grammar.{Grammar, DecodesOver, DecodesValue, Decodes}
 use Rattle.mx_thrift.specs.Decoding.{Read, Reader, struct_in, over_in, value_in, placed, struct_at, Answers, IsOnly}
-use Rattle.mx_thrift.proofs.Codecs.{Took, Codec, ok_is, mapped_codec, stated}
+use Rattle.mx_thrift.proofs.Codecs.{Codec, mapped_codec, stated}
 use Rattle.mx_thrift.proofs.Lists.{leaf_codec, list_codec, map_codec}
 use Rattle.mx_thrift.proofs.Structs.{struct_codec}
 

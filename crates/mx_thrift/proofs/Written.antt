@@ -1,21 +1,19 @@
 -- What is written is in the grammar.
-use Rattle.std.proofs.Common.{◌≡◌, ℕ, zero, suc, ◌+◌, ◌-◌, ◌*◌, ◌/◌, ◌%◌, ◌^◌, ◌<◌, ◌≤◌, ℤ, pos, negsuc, ◌+ℤ◌, ◌-ℤ◌, Bool, true, false, ltb, List, [], ◌∷◌, ◌++◌, length, map, flat_map, Option, Some, None, refl, sym, ap, subst, ◌∙◌, arith, inl, inr, ◌⊎◌}
-use Rattle.std.proofs.lemmas.Bool.{cases_lt, ltb-false, le-ltb, lt-ltb}
-use Rattle.std.proofs.lemmas.Bool.Decides.{nat_tests}
+use Rattle.std.proofs.Common.{◌≡◌, ℕ, zero, suc, ◌+◌, ◌*◌, ◌/◌, ◌%◌, ◌^◌, ◌<◌, ◌≤◌, ℤ, pos, negsuc, ◌+ℤ◌, ◌-ℤ◌, true, false, ltb, List, [], ◌∷◌, ◌++◌, length, map, flat_map, Option, Some, refl, sym, ap, subst, ◌∙◌, arith, inl, inr}
+use Rattle.std.proofs.lemmas.Bool.{cases_lt, le-ltb, lt-ltb}
 use Rattle.std.proofs.lemmas.Int.{ints}
 use Rattle.std.proofs.lemmas.List.{length-map}
 use Rattle.std.proofs.Math.Nat.{pow-suc}
 use Rattle.std.specs.Int.RustNames.{FitsSigned}
 use Rattle.std.specs.Int.{w16, w32, w64}
 use Rattle.std.specs.List.{AllByRecursion}
-use Rattle.mx_avro.specs.Encoding.{zigzag, groups, long_encoding}
+use Rattle.mx_avro.specs.Encoding.{groups, long_encoding}
 use Rattle.mx_thrift.specs.declared.kind.Kind.{Kind}
 use Rattle.mx_thrift.specs.declared.kind.Kind.TheVariants as kinds
 use Rattle.mx_thrift.specs.declared.value.Value.{Value}
-use Rattle.mx_thrift.specs.declared.value.Value.TheVariants as values
 use Rattle.mx_thrift.specs.declared.value.Field.{Field}
 use Rattle.mx_thrift.specs.Types.{kind_of_code}
-use Rattle.mx_thrift.specs.Grammar.{Grammar, IsGroups, groups_value, IsNumber, IsCount, IsSigned, IsText, InTurn, IsListHead, AreItems, DecodesList, IsFieldHead, DecodesField, IsField, DecodesFields, DecodesLeaf, DecodesOver, DecodesValue, Decodes}
+use Rattle.mx_thrift.specs.Grammar.{Grammar, IsGroups, groups_value, IsNumber, IsSigned, IsText, InTurn, IsListHead, AreItems, DecodesList, DecodesField, IsField, DecodesFields, DecodesLeaf, DecodesOver, DecodesValue, Decodes}
 use Rattle.mx_thrift.specs.Encoding.{count_bytes, list_head, small_gap, Written, struct_bytes, written_value, written_field, written, IsItemCode, IsListOf, IsStructOf, FieldsRise, IsWritableLeaf, IsWritableOver, IsWritableValue, IsWritable}
 use Rattle.mx_thrift.proofs.Forms.{form-Int, form-Long, form-Bytes, form-List, form-Struct, form-field}
 

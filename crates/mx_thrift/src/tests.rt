@@ -209,7 +209,8 @@ fn each_type_is_read(rt: HostRuntime) -> Result<(), Fail> {
 #[test]
 fn an_empty_list_keeps_the_type_that_it_names(rt: HostRuntime) -> Result<(), Fail> {
     let text = shown(rt.alloc(), &[0x19, 0x0e, 0x00])?;
-    let wanted = "Items { items: [Field { id: 1, value: List { kind: 14, items: Items { items: [] } } }] } 3";
+    let wanted =
+        "Items { items: [Field { id: 1, value: List { kind: 14, items: Items { items: [] } } }] } 3";
     assert_eq!(rt; text.as_str(), wanted);
     Ok(())
 }

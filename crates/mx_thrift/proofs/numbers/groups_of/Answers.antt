@@ -1,7 +1,6 @@
-use Rattle.std.proofs.Common.{◌≡◌, ◌^◌, ◌*◌, ◌+◌, ◌<◌, ◌≤◌, ◌-◌, ℕ, take, drop, length, add-one, refl, ap, arith, sym, ◌∙◌, length-drop}
+use Rattle.std.proofs.Common.{◌≡◌, ◌^◌, ◌*◌, ◌+◌, ◌-◌, ℕ, take, drop, length, add-one, refl, ap, arith, sym, ◌∙◌, length-drop}
 use Rattle.std.proofs.Math.Seq.{take-length}
 use Rattle.std.proofs.Math.Nat.{pow-suc}
-use Rattle.mx_thrift.specs.Decoding.{groups_in}
 use Rattle.mx_thrift.proofs.Groups.{nothing_so_far, cut, wide, ends, goes_on, fits}
 use Rattle.mx_thrift.proofs.numbers.groups_of.Goals as goal
 

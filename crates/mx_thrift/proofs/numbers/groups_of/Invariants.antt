@@ -1,4 +1,4 @@
-use Rattle.std.proofs.Common.{◌≡◌, ℕ, ◌-◌, ◌^◌, ◌<◌, ◌≤◌, length, drop}
+use Rattle.std.proofs.Common.{◌≡◌, ◌-◌, ◌^◌, ◌<◌, ◌≤◌, length, drop}
 use Rattle.mx_thrift.specs.Decoding.{groups_in}
 use Rattle.mx_thrift.proofs.Groups.{so_far}
 use Rattle.mx_thrift.proofs.numbers.groups_of.Given as goal

@@ -1,11 +1,11 @@
-use Rattle.std.proofs.Common.{◌≡◌, ap, sym, ◌∙◌, refl, arith, length, to_z, of_z}
+use Rattle.std.proofs.Common.{◌≡◌, ◌∙◌, arith, length, to_z, of_z}
 use Rattle.std.specs.Int.RustNames.{FitsSigned}
 use Rattle.std.proofs.Math.Facts.{to_z-of_z}
 use Rattle.std.proofs.lemmas.Int.{ints}
 use Rattle.std.specs.Int.{w16}
 use Rattle.std.proofs.lemmas.Result.{err_from_is_err_and}
 use Rattle.mx_thrift.specs.Decoding.{in_turn, both, struct_in, value_in}
-use Rattle.mx_thrift.proofs.Turns.{no_front, goes_on, ends, is_done, struct_goes_on, struct_ends, field_fails, fields_run_out, value_leaf, value_over}
+use Rattle.mx_thrift.proofs.Turns.{goes_on, ends, is_done, struct_goes_on, struct_ends, field_fails, fields_run_out, value_leaf, value_over}
 use Rattle.mx_thrift.proofs.reading.+value.Goals as goal
 
 pub value_of-returns-then-depth-eq0 : goal.value_of-returns-then-depth-eq0

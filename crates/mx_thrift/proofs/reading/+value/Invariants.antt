@@ -1,4 +1,4 @@
-use Rattle.std.proofs.Common.{◌≡◌, ℕ, ◌-◌, ◌+◌, ◌*◌, length, pos}
+use Rattle.std.proofs.Common.{◌≡◌, ◌-◌, ◌+◌, ◌*◌, length, pos}
 use Rattle.mx_thrift.specs.Decoding.{both, in_turn, fields_in, value_in}
 use Rattle.mx_thrift.proofs.Turns.{with_front}
 use Rattle.mx_thrift.proofs.reading.+value.Given as goal

@@ -1,10 +1,8 @@
-use Rattle.std.proofs.Common.{◌≡◌, ◌++◌, ◌∷◌, [], length, List, ℕ, pos, refl, inl, inr, arith, length-append, subst, sym}
+use Rattle.std.proofs.Common.{◌∷◌, [], pos, refl, inl, inr, arith, length-append}
 use Rattle.std.proofs.lemmas.Int.{ints}
-use Rattle.std.specs.List.{AllByRecursion}
-use Rattle.mx_thrift.specs.declared.value.Value.{Value}
 use Rattle.mx_thrift.specs.declared.value.Value.TheVariants as values
 use Rattle.mx_thrift.specs.declared.value.Field.{Field}
-use Rattle.mx_thrift.specs.Encoding.{IsWritableValue, IsWritable}
+use Rattle.mx_thrift.specs.Encoding.{IsWritableValue}
 use Rattle.mx_thrift.proofs.Can.{can_bytes, can_list, all_push, rise_by, one}
 use Rattle.mx_thrift.proofs.tests.empty_texts.Goals as goal
 

@@ -1,4 +1,4 @@
-use Rattle.std.proofs.Common.{◌≡◌, ◌∷◌, [], List, ℕ, ℤ, pos, negsuc, ◌<◌, ◌^◌, refl, ap, inr, arith, length}
+use Rattle.std.proofs.Common.{◌≡◌, ◌∷◌, [], List, ℕ, pos, negsuc, ◌<◌, ◌^◌, refl, ap, inr, arith, length}
 use Rattle.std.proofs.lemmas.Int.{ints}
 use Rattle.std.specs.List.{AllByRecursion}
 use Rattle.mx_thrift.specs.declared.value.Value.{Value}

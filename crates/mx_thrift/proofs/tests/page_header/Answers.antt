@@ -1,6 +1,5 @@
-use Rattle.std.proofs.Common.{◌≡◌, ◌∷◌, [], List, ℕ, ℤ, pos, refl, arith}
+use Rattle.std.proofs.Common.{◌≡◌, ◌∷◌, [], List, pos, refl, arith}
 use Rattle.std.proofs.lemmas.Int.{ints}
-use Rattle.mx_thrift.specs.declared.value.Value.{Value}
 use Rattle.mx_thrift.specs.declared.value.Value.TheVariants as values
 use Rattle.mx_thrift.specs.declared.value.Field.{Field}
 use Rattle.mx_thrift.specs.Encoding.{FieldsRise, IsWritableValue, IsWritable}

@@ -35,3 +35,5 @@ pub use writing::write_struct;
 
 #[cfg(test)]
 mod tests;
+#[cfg(test)]
+mod writing_tests;

@@ -4,7 +4,7 @@ use Rattle.mx_thrift.specs.declared.value.Value.TheVariants as values
 use Rattle.mx_thrift.specs.declared.value.Field.{Field}
 use Rattle.mx_thrift.specs.Encoding.{IsWritableValue}
 use Rattle.mx_thrift.proofs.Can.{can_bytes, can_list, all_push, rise_by, one}
-use Rattle.mx_thrift.proofs.tests.empty_texts.Goals as goal
+use Rattle.mx_thrift.proofs.writing_tests.empty_texts.Goals as goal
 
 pub loop-init : goal.loop-init
 loop-init c = rw c.new-items.ensures record { count = refl; all = tt }

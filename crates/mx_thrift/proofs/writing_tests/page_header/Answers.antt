@@ -4,7 +4,7 @@ use Rattle.mx_thrift.specs.declared.value.Value.TheVariants as values
 use Rattle.mx_thrift.specs.declared.value.Field.{Field}
 use Rattle.mx_thrift.specs.Encoding.{FieldsRise, IsWritableValue, IsWritable}
 use Rattle.mx_thrift.proofs.Can.{can_int, can_struct, rise_by, four}
-use Rattle.mx_thrift.proofs.tests.page_header.Goals as goal
+use Rattle.mx_thrift.proofs.writing_tests.page_header.Goals as goal
 
 inner_rises : (w x y z : Field) → w ≡ record { id = pos 1; value = values.Int (pos 1) } → x ≡ record { id = pos 2; value = values.Int (pos 0) } → y ≡ record { id = pos 3; value = values.Int (pos 3) } → z ≡ record { id = pos 4; value = values.Int (pos 3) }
     → FieldsRise (IsWritableValue 14) (pos 0) (w ∷ x ∷ y ∷ z ∷ [])

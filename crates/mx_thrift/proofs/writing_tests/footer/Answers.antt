@@ -6,7 +6,7 @@ use Rattle.mx_thrift.specs.declared.value.Value.TheVariants as values
 use Rattle.mx_thrift.specs.declared.value.Field.{Field}
 use Rattle.mx_thrift.specs.Encoding.{FieldsRise, IsWritableValue, IsWritable}
 use Rattle.mx_thrift.proofs.Can.{can_int, can_long, can_bytes, can_list, can_struct, rise_by, one, three}
-use Rattle.mx_thrift.proofs.tests.footer.Goals as goal
+use Rattle.mx_thrift.proofs.writing_tests.footer.Goals as goal
 
 rises : (inner : List Field) (f : Field) (structs : List Value) (text : List ℕ) → f ≡ record { id = pos 1; value = values.Int (pos 64) } → inner ≡ f ∷ [] → structs ≡ values.Struct inner ∷ [] → length text ≡ 2
     → IsWritable (record { id = pos 1; value = values.Long (negsuc 9223372036854775807) } ∷ record { id = pos 16; value = values.Bytes text } ∷ record { id = pos 17; value = values.List 12 structs } ∷ [])

@@ -1,6 +1,6 @@
 -- Values of any depth, and the struct at a place.
-use Rattle.std.proofs.Common.{◌≡◌, ℕ, zero, suc, ◌+◌, ◌-◌, List, ◌++◌, length, drop, Result, Ok, Err, refl, sym, ap, subst, ◌∙◌, length-append, drop-drop, arith}
-use Rattle.std.proofs.Math.Seq.{drop-append_seam}
+use Rattle.std.proofs.Common.{◌≡◌, ℕ, zero, suc, ◌+◌, ◌-◌, List, ◌++◌, length, take, drop, Result, Ok, Err, refl, sym, ap, subst, ◌∙◌, length-append, drop-drop, arith}
+use Rattle.std.proofs.Math.Seq.{drop-append_seam, take-append_seam}
 use Rattle.std.proofs.lemmas.List.{get_or-drop}
 use Rattle.std.specs.Prelude.{IfOk}
 use Rattle.mx_avro.specs.Decoding.{StandsAt}
@@ -14,7 +14,7 @@ use Rattle.mx_thrift.specs.declared.value.Value.TheVariants as values
 use Rattle.mx_thrift.specs.declared.value.Field.{Field}
 use Rattle.mx_thrift.specs.Grammar.{Grammar, DecodesOver, DecodesValue, Decodes}
 use Rattle.mx_thrift.specs.Decoding.{Read, Reader, struct_in, over_in, value_in, placed, struct_at, Answers, IsOnly}
-use Rattle.mx_thrift.proofs.Codecs.{Codec, mapped_codec, stated}
+use Rattle.mx_thrift.proofs.Codecs.{Codec, ok_is, mapped_codec, stated}
 use Rattle.mx_thrift.proofs.Lists.{leaf_codec, list_codec, map_codec}
 use Rattle.mx_thrift.proofs.Structs.{struct_codec}
 
@@ -92,3 +92,13 @@ only bytes at (Err (errors.Deep place)) fields text rest h e g = absurd (let bot
 -- what was written reads back
 pub reads_back : (fields : List Field) (text front rest : List ℕ) → Decodes text fields → struct_at (front ++ (text ++ rest)) (length front) ≡ Ok (fields, length front + length text)
 reads_back fields text front rest g = struct_again (front ++ (text ++ rest)) (length front) fields text rest (drop-append_seam front (text ++ rest)) g
+
+-- no bytes begin with two structs
+pub one_struct : (a b x y : List ℕ) (f g : List Field) → Decodes a f → Decodes b g → a ++ x ≡ b ++ y → (f ≡ g) × (a ≡ b)
+one_struct a b x y f g da db e =
+    let first : struct_in (value_in 15) (a ++ x) ≡ Ok (f, x) = whole_codec.again f a x da in
+    let second : struct_in (value_in 15) (a ++ x) ≡ Ok (g, y) = ap (struct_in (value_in 15)) e ∙ whole_codec.again g b y db in
+    let same : (f, x) ≡ (g, y) = ok_is (f, x) (g, y) (sym first ∙ second) in
+    let rest : x ≡ y = ap (λ (p : List Field × List ℕ). p.1) same in
+    let len : length a ≡ length b = omega (arith, ap length e, length-append a x, length-append b y, ap length rest) in
+    (ap (λ (p : List Field × List ℕ). p.0) same, sym (take-append_seam a x) ∙ ap (λ (n : ℕ). take n (a ++ x)) len ∙ ap (take (length b)) e ∙ take-append_seam b y)

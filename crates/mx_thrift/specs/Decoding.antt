@@ -141,7 +141,7 @@ pairs_in inner count bytes = types_in bytes >>= λ types. in_turn (both (inner t
 unfoldable pub map_in : (Kind → Reader Value) → Reader ((ℕ × ℕ) × List (Value × Value))
 map_in inner bytes = count_in bytes >>= λ count. if count.0 == 0 then Ok (((0, 0), []), count.1) else pairs_in inner count.0 count.1
 
--- whether a number fits 16 bits
+-- whether an id fits 16 bits
 abbrev pub is_id : ℤ → Bool
 is_id (pos n) = nat_lt n (2 ^ 15)
 is_id (negsuc n) = nat_lt n (2 ^ 15)
@@ -223,7 +223,7 @@ placed at len (Err e) = Err (error_at e.0 (at + (len - e.1)))
 unfoldable pub struct_at : List ℕ → ℕ → Result (List Field × ℕ) ThriftError
 struct_at bytes at = placed at (length (drop at bytes)) (struct_in (value_in 15) (drop at bytes))
 
--- what a function returned, seen by view, is what was read, unless memory ran out
+-- a failure is the broken rule that was read, unless memory ran out
 abbrev pub Fails : {A : Type 0} → Fault → Read A → Type 0
 Fails faults.NoMemory read = Unit {0}
 Fails (faults.Broken rule left) read = read ≡ Err (rule, left)

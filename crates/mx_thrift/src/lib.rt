@@ -11,6 +11,7 @@
 //! |---|---|
 //! | `write_struct` | the written form of the fields, which is in the grammar and reads back at any place, whatever follows |
 //! | `read_struct` | the fields that the bytes at a place stand for, and the place behind them; else the first broken rule |
+//! | `one_struct` | no bytes begin with two structs |
 //!
 //! Sixteen structs and containers may stand inside each other. Memory is taken for what has been read, never from a
 //! count that is claimed.
@@ -29,7 +30,7 @@ mod value;
 mod writing;
 
 pub use error::ThriftError;
-pub use reading::read_struct;
+pub use reading::{one_struct, read_struct};
 pub use value::{Field, Fields, Value};
 pub use writing::write_struct;
 

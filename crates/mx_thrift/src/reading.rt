@@ -28,6 +28,11 @@ pub fn read_struct(alloc: Global, bytes: &[u8], at: usize) -> Result<(Fields, us
     read(alloc, bytes, at)
 }
 
+/// No bytes begin with two structs.
+pub fn one_struct()
+    ensures { (a b x y : List ℕ) (f g : List Field) → Decodes a f → Decodes b g → a ++ x ≡ b ++ y → (f ≡ g) × (a ≡ b) }
+{}
+
 #[tactic(auto, unfolding(crate::specs::Decoding::struct_at))]
 fn read(alloc: Global, bytes: &[u8], at: usize) -> Result<(Fields, usize), ThriftError>
     ensures { Answers result (struct_at bytes.now at) }

@@ -27,7 +27,7 @@ fn put_fields(alloc: Global, fields: &Fields) -> Result<Vec<u8>, AllocError>
     Ok(out)
 }
 
-// No other value is written.
+// No other value is written: the condition of `write_struct` bars it.
 #[cycle(put)]
 fn put_value(out: &mut Vec<u8>, value: &Value) -> Result<(), AllocError>
     ensures { OnOk result (out.new.items ≡ out.old.items ++ (written_value value.now).1) }

@@ -35,6 +35,9 @@ pub(crate) fn eight_of(bytes: &[u8]) -> Result<([u8; 8], &[u8]), Fault>
     }
 }
 
+/// The place of the last byte that a number may have.
+const LAST_PLACE: usize = 9;
+
 /// The number that stands first, whatever its type, and the bytes behind it.
 fn groups_of(bytes: &[u8]) -> Result<(u128, &[u8]), Fault>
     ensures { Gives (λ x. (x.0, x.1.now)) result (groups_in (length bytes.now) 10 bytes.now) }
@@ -46,7 +49,7 @@ fn groups_of(bytes: &[u8]) -> Result<(u128, &[u8]), Fault>
         if byte < 128 {
             return Ok((number, &bytes[index + 1..]));
         }
-        if index == 9 {
+        if index == LAST_PLACE {
             return broken(Rule::Wide, bytes);
         }
         scale *= 128;

@@ -27,10 +27,10 @@ returns-then-byte-lt128 c =
     ap (λ (n : ℕ). take n (drop (l.index + 1) c.args.bytes.now)) (sym (length-drop (l.index + 1) c.args.bytes.now)) ∙ take-length (drop (l.index + 1) c.args.bytes.now) in
     rw whole e
 
-pub returns-then-index-eq9 : goal.returns-then-index-eq9
-returns-then-index-eq9 c =
+pub returns-then-index-eq-LAST_PLACE : goal.returns-then-index-eq-LAST_PLACE
+returns-then-index-eq-LAST_PLACE c =
     let l = c.loop-index in
-    let w = wide (length c.args.bytes.now) l.number l.scale l.index c.args.bytes.now _ c.if-index-eq9.true c.loop-index-test.true c.if-byte-lt128.false l.invariant.read in
+    let w = wide (length c.args.bytes.now) l.number l.scale l.index c.args.bytes.now _ c.if-index-eq-LAST_PLACE.true c.loop-index-test.true c.if-byte-lt128.false l.invariant.read in
     rw c.broken.ensures w
 
 pub overflow_mul-scale : goal.overflow_mul-scale

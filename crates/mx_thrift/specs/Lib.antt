@@ -1,0 +1,4 @@
+pub mod Types
+pub mod Grammar
+pub mod Encoding
+pub mod Decoding

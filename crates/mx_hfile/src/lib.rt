@@ -36,3 +36,6 @@ pub use dividing::one_division;
 pub use error::HFileError;
 pub use reading::{MOST_BYTES, read};
 pub use writing::{size, write};
+
+#[cfg(test)]
+mod tests;

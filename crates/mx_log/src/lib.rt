@@ -25,3 +25,6 @@ mod writing;
 pub use error::LogError;
 pub use reading::read_log;
 pub use writing::write_log;
+
+#[cfg(test)]
+mod tests;

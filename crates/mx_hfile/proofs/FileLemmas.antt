@@ -14,7 +14,7 @@ use Rattle.mx_hfile.specs.declared.error.HFileError.TheVariants as errors
 use Rattle.mx_hfile.specs.Encoding.{AreEntries, RiseFrom, HasKey, body, block, blocks_bytes, Place, place_of, index, trailer, blocks_of, file, encoding}
 use Rattle.mx_hfile.specs.Decoding.{is_key, is_length, placed, trailer_in, index_in, blocks_in, Trailer, file_in, HasCause, Decodes, IsOnly}
 use Rattle.mx_hfile.specs.Division.{IsFullBefore, AreBlocks}
-use Rattle.mx_hfile.proofs.FieldLemmas.{IsBytes, IsBytes-take, IsBytes-drop, bind_ok, passed, IsGoodKey}
+use Rattle.mx_hfile.proofs.FieldLemmas.{IsBytes, IsBytes-take, IsBytes-drop, bind_ok, ok_is, passed, IsGoodKey}
 use Rattle.mx_hfile.proofs.PlaceLemmas.{AreGoodPlaces, covers, index-length, index_takes, index_again}
 use Rattle.mx_hfile.proofs.FileSteps.{index_bytes, file_in-data, counted_data}
 use Rattle.mx_hfile.proofs.DividingLemmas.{block-length, length-map, encoding-length, few_blocks, entry-length, keys_split}
@@ -102,7 +102,7 @@ in_range : (len : ℕ) → (ltb len 80 || ltb 268_435_456 len) ≡ false → (80
 in_range len e = (grind (arith, nat_tests), grind (arith, nat_tests))
 
 joined : (bytes : List ℕ) (t : Trailer) (ps : List Place) (es : List Entry) → 80 ≤ length bytes → length bytes ≤ 268_435_456 → IsTrailer (length bytes) (drop (length bytes - 64) bytes) t
-    → (index_bytes bytes t ≡ index ps) × ((length ps ≡ t.blocks) × AreGoodPlaces 0 t.offset [] ps) → AllRead [] (take t.offset bytes) ps es → length es ≡ t.entries → IsFileOf bytes es
+    → (index_bytes bytes t ≡ index ps) × ((length ps ≡ t.block_count) × AreGoodPlaces 0 t.offset [] ps) → AllRead [] (take t.offset bytes) ps es → length es ≡ t.entry_count → IsFileOf bytes es
 joined bytes t ps es ge le tr ix r count =
     let bs = r.blocks in
     let o = t.offset in
@@ -111,12 +111,12 @@ joined bytes t ps es ge le tr ix r count =
     let d-len : length (blocks_bytes bs) ≡ o = omega (arith, ap length r.spelled, length-take o bytes, room, ge) in
     let places : ps ≡ map place_of bs = sym r.places_are in
     let i-len : length (index (map place_of bs)) ≡ len - 64 - o = omega (arith, ap length ix.0, ap (λ (x : List Place). length (index x)) places, length-take (len - 64 - o) (drop o bytes), length-drop o bytes, room, ge) in
-    let k : length bs ≡ t.blocks = omega (arith, length-map place_of bs, ap (λ (x : List Place). length x) places, ix.1.0) in
+    let k : length bs ≡ t.block_count = omega (arith, length-map place_of bs, ap (λ (x : List Place). length x) places, ix.1.0) in
     let are = are_blocks 0 o [] bs r.each (subst (AreGoodPlaces 0 o []) places ix.1.1) in
     let blocks : blocks_of es ≡ bs = ap blocks_of (sym r.entries) ∙ blocks_of-all bs are in
-    let trailer-is : trailer o (len - 64 - o) t.entries t.blocks ≡ trailer (length (blocks_bytes bs)) (length (index (map place_of bs))) (length es) (length bs) =
-    ap (λ (n : ℕ). trailer n (len - 64 - o) t.entries t.blocks) (sym d-len) ∙ ap (λ (n : ℕ). trailer (length (blocks_bytes bs)) n t.entries t.blocks) (sym i-len)
-    ∙ ap (λ (n : ℕ). trailer (length (blocks_bytes bs)) (length (index (map place_of bs))) n t.blocks) (sym count)
+    let trailer-is : trailer o (len - 64 - o) t.entry_count t.block_count ≡ trailer (length (blocks_bytes bs)) (length (index (map place_of bs))) (length es) (length bs) =
+    ap (λ (n : ℕ). trailer n (len - 64 - o) t.entry_count t.block_count) (sym d-len) ∙ ap (λ (n : ℕ). trailer (length (blocks_bytes bs)) n t.entry_count t.block_count) (sym i-len)
+    ∙ ap (λ (n : ℕ). trailer (length (blocks_bytes bs)) (length (index (map place_of bs))) n t.block_count) (sym count)
     ∙ ap (λ (n : ℕ). trailer (length (blocks_bytes bs)) (length (index (map place_of bs))) (length es) n) (sym k) in
     let whole : bytes ≡ file (length es) bs =
     three_parts bytes o (len - 64) (omega (arith, room, ge))
@@ -134,10 +134,10 @@ file_takes bytes es fits e =
     let range = in_range len g.0 in
     let t = bind_ok (placed len (trailer_in len (drop (len - 64) bytes))) _ es g.1 in
     let tr = trailer_takes len (drop (len - 64) bytes) t.0 (IsBytes-drop (len - 64) bytes fits) (omega (arith, length-drop (len - 64) bytes, range.0)) (place_ok len (trailer_in len (drop (len - 64) bytes)) t.0 t.1) in
-    let i = bind_ok (placed (len - 64) (index_in t.0.blocks t.0.offset (index_bytes bytes t.0))) _ es t.2 in
-    let ix = index_takes t.0.blocks t.0.offset (index_bytes bytes t.0) i.0 (IsBytes-take (len - 64 - t.0.offset) (drop t.0.offset bytes) (IsBytes-drop t.0.offset bytes fits)) (place_ok (len - 64) (index_in t.0.blocks t.0.offset (index_bytes bytes t.0)) i.0 i.1) in
-    let d = bind_ok (blocks_in [] 0 i.0 (take t.0.offset bytes)) (λ entries. cond (eqb (length entries) t.0.entries) (Ok entries) (Err (len - 32))) es i.2 in
-    let c = passed (eqb (length d.0) t.0.entries) d.0 es (len - 32) d.2 in
+    let i = bind_ok (placed (len - 64) (index_in t.0.block_count t.0.offset (index_bytes bytes t.0))) _ es t.2 in
+    let ix = index_takes t.0.block_count t.0.offset (index_bytes bytes t.0) i.0 (IsBytes-take (len - 64 - t.0.offset) (drop t.0.offset bytes) (IsBytes-drop t.0.offset bytes fits)) (place_ok (len - 64) (index_in t.0.block_count t.0.offset (index_bytes bytes t.0)) i.0 i.1) in
+    let d = bind_ok (blocks_in [] 0 i.0 (take t.0.offset bytes)) (λ entries. cond (eqb (length entries) t.0.entry_count) (Ok entries) (Err (len - 32))) es i.2 in
+    let c = passed (eqb (length d.0) t.0.entry_count) d.0 es (len - 32) d.2 in
     let room = tr.room in
     let left : length (take t.0.offset bytes) ≡ t.0.offset - 0 = omega (arith, length-take t.0.offset bytes, room, range.0) in
     let r = blocks_take [] 0 i.0 (take t.0.offset bytes) d.0 (IsBytes-take t.0.offset bytes fits) (rw left (covers 0 t.0.offset [] i.0 ix.1.1)) d.1 in
@@ -178,7 +178,7 @@ file_again es good le =
     let front : take (length data') bytes ≡ data' = ap (take (length data')) is' ∙ take-append_seam data' (places ++ end) in
     let middle : take (len - 64 - length data') (drop (length data') bytes) ≡ places =
     ap (λ (n : ℕ). take n (drop (length data') bytes)) rest ∙ ap (λ (x : List ℕ). take (length places) (drop (length data') x)) is' ∙ ap (take (length places)) (drop-append_seam data' (places ++ end)) ∙ take-append_seam places end in
-    let t : Trailer = record { offset = length data'; entries = length es; blocks = length bs } in
+    let t : Trailer = record { offset = length data'; entry_count = length es; block_count = length bs } in
     let trailer' : trailer_in len (drop (len - 64) bytes) ≡ Ok t =
     ap (trailer_in len) (back ∙ ap (λ (n : ℕ). trailer (length data') n (length es) (length bs)) (sym rest)) ∙ trailer_again len (length data') (length es) (length bs) (omega (arith, sum, i-some)) (omega (arith, le)) (omega (arith, count, sum, le)) (omega (arith, blocks, sum, le)) in
     let rise : RiseFrom [] (all bs) = subst (RiseFrom []) (sym d.whole) good.rising in
@@ -190,10 +190,18 @@ file_again es good le =
     let entries' : blocks_in [] 0 ps (take (length data') bytes) ≡ Ok es = blocks' ∙ ap (λ (x : List Entry). Ok x) d.whole in
     file_in-data bytes t ps (omega (arith, sum, i-some)) le trailer' index' ∙ counted_data bytes t ps es true entries' (eq-eqb (length es) (length es) refl)
 
+abbrev done : List Entry → Result (List Entry) ℕ
+done es = Ok es
+
+pub one_list : (a b : List Entry) → AreEntries a → AreEntries b → length (encoding a) ≤ 268_435_456 → encoding a ≡ encoding b → a ≡ b
+one_list a b good good' le same =
+    let both : done a ≡ done b = sym (file_again a good le) ∙ ap file_in same ∙ file_again b good' (subst (λ (x : List ℕ). length x ≤ 268_435_456) same le) in
+    ok_is a b both
+
 -- ---- the answer
 
-pub is_found : (bytes : List ℕ) (r : Result (Vec Entry) HFileError) → IsBytes bytes → Decodes (file_in bytes) r → IfOk r (λ v. AreEntries v.items × (length bytes ≤ 268_435_456) × (bytes ≡ encoding v.items))
-is_found bytes (Ok v) fits read = let f = file_takes bytes v.items fits read in (f.entries, f.len, f.spelled)
+pub is_found : (bytes : List ℕ) (r : Result (Vec Entry) HFileError) → IsBytes bytes → Decodes (file_in bytes) r → IfOk r (λ v. AreEntries v.items × (length (encoding v.items) ≤ 268_435_456) × (bytes ≡ encoding v.items))
+is_found bytes (Ok v) fits read = let f = file_takes bytes v.items fits read in (f.entries, subst (λ (x : List ℕ). length x ≤ 268_435_456) f.spelled f.len, f.spelled)
 is_found bytes (Err e) fits read = tt
 
 only_err : (e : HFileError) (es : List Entry) (read : Result (List Entry) ℕ) → read ≡ Ok es → HasCause e read → e ≡ errors.NoMemory
@@ -204,6 +212,6 @@ only_from : (es : List Entry) (r : Result (Vec Entry) HFileError) (read : Result
 only_from es (Ok v) read is d = cc
 only_from es (Err e) read is d = only_err e es read is d
 
-pub is_only : (bytes : List ℕ) (es : List Entry) (r : Result (Vec Entry) HFileError) → AreEntries es → length bytes ≤ 268_435_456 → bytes ≡ encoding es → Decodes (file_in bytes) r → IsOnly es r
+pub is_only : (bytes : List ℕ) (es : List Entry) (r : Result (Vec Entry) HFileError) → AreEntries es → length (encoding es) ≤ 268_435_456 → bytes ≡ encoding es → Decodes (file_in bytes) r → IsOnly es r
 is_only bytes es r good le is d =
-    only_from es r (file_in bytes) (ap file_in is ∙ file_again es good (subst (λ (x : List ℕ). length x ≤ 268_435_456) is le)) d
+    only_from es r (file_in bytes) (ap file_in is ∙ file_again es good le) d

@@ -15,7 +15,7 @@ trailer-parts : (o m n k : ℕ) (rest : List ℕ)
     → trailer o m n k ++ rest ≡ trailer_magic ++ (number w32 1 ++ (number w32 0 ++ (number w64 o ++ (number w64 m ++ (number w64 n ++ (number w32 k ++ (number w32 0 ++ (zeros ++ rest))))))))
 trailer-parts o m n k rest = simp append_assoc
 
-pub trailer_again : (len o n k : ℕ) → o + 80 ≤ len → len < 2 ^ 64 → n < 2 ^ 64 → k < 2 ^ 32 → trailer_in len (trailer o (len - 64 - o) n k) ≡ Ok (record { offset = o; entries = n; blocks = k })
+pub trailer_again : (len o n k : ℕ) → o + 80 ≤ len → len < 2 ^ 64 → n < 2 ^ 64 → k < 2 ^ 32 → trailer_in len (trailer o (len - 64 - o) n k) ≡ Ok (record { offset = o; entry_count = n; block_count = k })
 unfolding trailer_in
 trailer_again len o n k le lt ln lk =
     let m = len - 64 - o in
@@ -31,7 +31,7 @@ trailer_again len o n k le lt ln lk =
     ∙ rw (expected_again trailer_magic (number w32 1 ++ (number w32 0 ++ (number w64 o ++ d))), expected_again (number w32 1) (number w32 0 ++ (number w64 o ++ d)), expected_again (number w32 0) (number w64 o ++ d), offset, expected_again (number w64 m) e, c64.again n f ln, c32.again k g lk, expected_again (number w32 0) h, expected_again zeros []) refl
 
 pub record IsTrailer (len : ℕ) (bytes : List ℕ) (t : Trailer) : Type 0 where
-  pub spelled : bytes ≡ trailer t.offset (len - 64 - t.offset) t.entries t.blocks
+  pub spelled : bytes ≡ trailer t.offset (len - 64 - t.offset) t.entry_count t.block_count
   pub room : t.offset < len - 79
 
 no_rest : (bytes text rest : List ℕ) → bytes ≡ text ++ rest → length bytes ≡ 64 → length text ≡ 64 → rest ≡ []
@@ -72,5 +72,5 @@ trailer_takes len bytes t fits is e =
     let u9 = Took-then bytes (trailer_magic ++ number w32 1 ++ number w32 0 ++ number w64 x4.0.0 ++ number w64 m ++ number w64 x6.0.0 ++ number w32 x7.0.0 ++ number w32 0) x8.0 zeros x9.0 u8 t9 in
     let nothing : x9.0 ≡ [] = no_rest bytes (trailer x4.0.0 m x6.0.0 x7.0.0) x9.0 u9.parts is (trailer-length x4.0.0 m x6.0.0 x7.0.0) in
     let whole : bytes ≡ trailer x4.0.0 m x6.0.0 x7.0.0 = u9.parts ∙ ap (λ (x : List ℕ). trailer x4.0.0 m x6.0.0 x7.0.0 ++ x) nothing ∙ append-nil (trailer x4.0.0 m x6.0.0 x7.0.0) in
-    let made : Trailer = record { offset = x4.0.0; entries = x6.0.0; blocks = x7.0.0 } in
+    let made : Trailer = record { offset = x4.0.0; entry_count = x6.0.0; block_count = x7.0.0 } in
     subst (λ (z : Trailer). IsTrailer len bytes z) (ok_is made t x9.2) (record { spelled = whole; room = ltb-true _ _ p4.1 })

@@ -137,8 +137,8 @@ index_in blocks end bytes =
 -- what the trailer says: how long the data is, and how many entries and blocks there are
 pub record Trailer : Type 0 where
   pub offset : ℕ
-  pub entries : ℕ
-  pub blocks : ℕ
+  pub entry_count : ℕ
+  pub block_count : ℕ
 
 -- where the index block begins: it has 16 bytes or more in front of the trailer
 abbrev pub offset_in : ℕ → Reader ℕ
@@ -154,16 +154,16 @@ trailer_in len bytes =
     >>= λ entries. number_in w32 entries.1
     >>= λ blocks. expected_in (number w32 0) blocks.1
     >>= λ rest. expected_in (replicate 16 0) rest
-    >>= λ rest. Ok (record { offset = offset.0; entries = entries.0; blocks = blocks.0 })
+    >>= λ rest. Ok (record { offset = offset.0; entry_count = entries.0; block_count = blocks.0 })
 
 -- the entries of a file; that there are as many as the trailer says is known last
 unfoldable pub file_in : List ℕ → Result (List Entry) ℕ
 file_in bytes =
     if nat_lt (length bytes) 80 || nat_lt 268_435_456 (length bytes) then Err 0
     else (placed (length bytes) (trailer_in (length bytes) (drop (length bytes - 64) bytes))
-    >>= λ t. placed (length bytes - 64) (index_in t.blocks t.offset (take (length bytes - 64 - t.offset) (drop t.offset bytes)))
+    >>= λ t. placed (length bytes - 64) (index_in t.block_count t.offset (take (length bytes - 64 - t.offset) (drop t.offset bytes)))
     >>= λ places. blocks_in [] 0 places (take t.offset bytes)
-    >>= λ entries. if length entries == t.entries then Ok entries else Err (length bytes - 32))
+    >>= λ entries. if length entries == t.entry_count then Ok entries else Err (length bytes - 32))
 
 -- an error is want of memory, or the place of the first broken rule
 abbrev pub HasCause : HFileError → Result (List Entry) ℕ → Type 0

@@ -17,7 +17,7 @@ seen l = record { len = l.len; key = l.key.now }
 
 -- what the trailer says
 abbrev pub said : declared_Trailer → Trailer
-said t = record { offset = t.offset; entries = t.entries; blocks = t.blocks }
+said t = record { offset = t.offset; entry_count = t.entry_count; block_count = t.block_count }
 
 -- blocks fill so many bytes, and no more
 abbrev pub Covers : ℕ → List Place → Type 0

@@ -10,7 +10,7 @@ use mx_base::Entry;
 /// The entries of the first block, and those behind it.
 pub(crate) fn first_block(entries: &[Entry]) -> (&[Entry], &[Entry])
     requires { 0 < length entries.now }
-    ensures blocks { blocks_of entries.now ≡ result.0.now ∷ blocks_of result.1.now }
+    ensures cut { blocks_of entries.now ≡ result.0.now ∷ blocks_of result.1.now }
     ensures whole { entries.now ≡ result.0.now ++ result.1.now }
     ensures some { 0 < length result.0.now }
     ensures behind { length result.1.now < length entries.now }

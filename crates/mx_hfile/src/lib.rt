@@ -20,7 +20,7 @@
 //! | `write` | the one file of the entries |
 //! | `size` | its length, without writing it |
 //! | `read` | the entries whose file the bytes are, all of them; else the place of the first broken rule |
-//! | `one_division` | the blocks of entries divide them, and no other blocks do |
+//! | `one_division`, `one_list` | the blocks of entries divide them, and no other blocks do; no two lists have one file |
 #![tactic(auto)]
 
 mod blocks;
@@ -34,7 +34,7 @@ mod writing;
 
 pub use dividing::one_division;
 pub use error::HFileError;
-pub use reading::{MOST_BYTES, read};
+pub use reading::{MOST_BYTES, one_list, read};
 pub use writing::{size, write};
 
 #[cfg(test)]

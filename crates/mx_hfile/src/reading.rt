@@ -16,13 +16,18 @@ pub const MOST_BYTES: usize = 268_435_456;
 
 /// The entries whose file this is.
 pub fn read(alloc: Global, bytes: &[u8]) -> Result<Vec<Entry>, HFileError>
-    ensures found { IfOk result (λ entries. AreEntries entries.items × (length bytes.now ≤ 268_435_456) × (bytes.now ≡ encoding entries.items)) }
-    ensures only { (entries : List Entry) → AreEntries entries → length bytes.now ≤ 268_435_456 → bytes.now ≡ encoding entries → IsOnly entries result }
+    ensures found { IfOk result (λ entries. AreEntries entries.items × (length (encoding entries.items) ≤ 268_435_456) × (bytes.now ≡ encoding entries.items)) }
+    ensures only { (entries : List Entry) → AreEntries entries → length (encoding entries) ≤ 268_435_456 → bytes.now ≡ encoding entries → IsOnly entries result }
     ensures exact { Decodes (file_in bytes.now) result }
     ensures within { IfErr result (IsWithin (length bytes.now)) }
 {
     file_of(alloc, bytes)
 }
+
+/// No two lists of entries have one file.
+pub fn one_list()
+    ensures { (a b : List Entry) → AreEntries a → AreEntries b → length (encoding a) ≤ 268_435_456 → encoding a ≡ encoding b → a ≡ b }
+{}
 
 fn file_of(alloc: Global, bytes: &[u8]) -> Result<Vec<Entry>, HFileError>
     ensures read { Decodes (file_in bytes.now) result }
@@ -39,12 +44,12 @@ fn file_of(alloc: Global, bytes: &[u8]) -> Result<Vec<Entry>, HFileError>
     };
     let (blocks, behind) = bytes.split_at(trailer.offset);
     let (index, _) = behind.split_at(len - 64 - trailer.offset);
-    let listings = match index_of(alloc, trailer.blocks, trailer.offset, index) {
+    let listings = match index_of(alloc, trailer.block_count, trailer.offset, index) {
         Ok(listings) => listings,
         Err(fault) => return Err(fault.before(len - 64)),
     };
     let entries = entries_of(alloc, &listings, blocks)?;
-    if entries.len() as u64 != trailer.entries {
+    if entries.len() as u64 != trailer.entry_count {
         return Err(HFileError::BadHFile { at: len - 32 });
     }
     Ok(entries)

@@ -150,7 +150,11 @@ fn the_first_broken_rule_is_named_by_the_start_of_its_field(rt: HostRuntime) -> 
             *old = byte;
         }
         let read = read(alloc, &bytes);
-        assert_eq!(rt; read.err(), Some(HFileError::BadHFile { at }), "{place} {byte}");
+        assert_eq!(rt;
+            read.err(),
+            Some(HFileError::BadHFile { at }),
+            "{place} {byte}"
+        );
     }
     Ok(())
 }
@@ -168,7 +172,12 @@ fn a_file_that_is_cut_or_has_bytes_behind_it_is_refused(rt: HostRuntime) -> Resu
     }
     bytes.push(0)?;
     let read = read(alloc, &bytes);
-    assert_eq!(rt; read.err(), Some(HFileError::BadHFile { at: whole.saturating_sub(63) }));
+    assert_eq!(rt;
+        read.err(),
+        Some(HFileError::BadHFile {
+            at: whole.saturating_sub(63)
+        })
+    );
     Ok(())
 }
 
@@ -201,7 +210,11 @@ fn a_byte_that_is_changed_is_refused_or_makes_the_file_of_other_entries(
 fn an_entry_begins_a_block_once_the_body_has_16384_bytes(rt: HostRuntime) -> Result<(), Fail> {
     let alloc = rt.alloc();
     // The bytes of the first value, the length of the file, and the number of blocks.
-    let cases = [(16_376, 16_498, 1), (16_377, 16_526, 2), (16_378, 16_527, 2)];
+    let cases = [
+        (16_376, 16_498, 1),
+        (16_377, 16_526, 2),
+        (16_378, 16_527, 2),
+    ];
     for (value, len, blocks) in cases {
         let mut entries = Vec::new(alloc);
         entries.push(long_entry(alloc, b"a", value)?)?;

@@ -11,8 +11,8 @@ pub(crate) const TRAILER_MAGIC: [u8; 8] = *b"MDTTRAIL";
 #[derive(Clone, Copy, Drop)]
 pub(crate) struct Trailer {
     pub offset: usize,
-    pub entries: u64,
-    pub blocks: u32,
+    pub entry_count: u64,
+    pub block_count: u32,
 }
 
 /// The trailer of a file of this length.
@@ -27,14 +27,14 @@ pub(crate) fn trailer_of(len: usize, bytes: &[u8]) -> Result<Trailer, Fault>
     let rest = expected(&0_u32.to_be_bytes(), rest)?;
     let (offset, rest) = offset_of(len, rest)?;
     let rest = expected(&((len - 64 - offset) as u64).to_be_bytes(), rest)?;
-    let (entries, rest) = u64_in(rest)?;
-    let (blocks, rest) = u32_in(rest)?;
+    let (entry_count, rest) = u64_in(rest)?;
+    let (block_count, rest) = u32_in(rest)?;
     let rest = expected(&0_u32.to_be_bytes(), rest)?;
     let _end = expected(&[0; 16], rest)?;
     Ok(Trailer {
         offset,
-        entries,
-        blocks,
+        entry_count,
+        block_count,
     })
 }
 

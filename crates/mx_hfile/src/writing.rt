@@ -16,7 +16,10 @@ pub fn size(entries: &[Entry]) -> u64
     ensures { result ≡ min (length (encoding entries.now)) (2 ^ 64 - 1) }
 {
     let sizes = sizes_of(entries);
-    sizes.data.saturating_add(sizes.index).saturating_add(64)
+    sizes
+        .data_len
+        .saturating_add(sizes.index_len)
+        .saturating_add(64)
 }
 
 /// The one file of these entries.
@@ -26,7 +29,7 @@ pub fn write(alloc: Global, entries: &[Entry]) -> Result<Vec<u8>, AllocError>
     ensures { IfOk result (λ bytes. bytes.items ≡ encoding entries.now) }
 {
     let sizes = sizes_of(entries);
-    let mut out = Vec::with_capacity(alloc, (sizes.data + sizes.index + 64) as usize)?;
+    let mut out = Vec::with_capacity(alloc, (sizes.data_len + sizes.index_len + 64) as usize)?;
     put_blocks(&mut out, entries)?;
     put_index(&mut out, entries, sizes)?;
     put_trailer(&mut out, entries.len() as u64, sizes)?;
@@ -37,32 +40,32 @@ pub fn write(alloc: Global, entries: &[Entry]) -> Result<Vec<u8>, AllocError>
 /// there are.
 #[derive(Clone, Copy, Drop)]
 struct Sizes {
-    data: u64,
-    index: u64,
-    blocks: u64,
+    data_len: u64,
+    index_len: u64,
+    block_count: u64,
 }
 
 fn sizes_of(entries: &[Entry]) -> Sizes
-    ensures data { result.data ≡ min (length (blocks_bytes (blocks_of entries.now))) (2 ^ 64 - 1) }
-    ensures index { result.index ≡ min (length (index (map place_of (blocks_of entries.now)))) (2 ^ 64 - 1) }
-    ensures blocks { result.blocks ≡ length (blocks_of entries.now) }
+    ensures data_len { result.data_len ≡ min (length (blocks_bytes (blocks_of entries.now))) (2 ^ 64 - 1) }
+    ensures index_len { result.index_len ≡ min (length (index (map place_of (blocks_of entries.now)))) (2 ^ 64 - 1) }
+    ensures block_count { result.block_count ≡ length (blocks_of entries.now) }
 {
     let mut sizes = Sizes {
-        data: 0,
-        index: 16,
-        blocks: 0,
+        data_len: 0,
+        index_len: 16,
+        block_count: 0,
     };
     let mut rest = entries;
     while !rest.is_empty() {
         let (block, behind) = first_block(rest);
-        sizes.data = sizes
-            .data
+        sizes.data_len = sizes
+            .data_len
             .saturating_add(12)
             .saturating_add(body_len(block));
-        sizes.index = sizes
-            .index
+        sizes.index_len = sizes
+            .index_len
             .saturating_add(14 + first_key(block).len() as u64);
-        sizes.blocks += 1;
+        sizes.block_count += 1;
         rest = behind;
     }
     sizes
@@ -130,13 +133,13 @@ fn put_entry(out: &mut Vec<u8>, entry: &Entry) -> Result<(), AllocError>
 fn put_index(out: &mut Vec<u8>, entries: &[Entry], sizes: Sizes) -> Result<(), AllocError>
     requires keys { AllByRecursion HasKey entries.now }
     requires room { length (blocks_bytes (blocks_of entries.now)) ≤ 268_435_456 }
-    requires len { (sizes.index ≡ 16 + length (listings 0 (map place_of (blocks_of entries.now)))) × (sizes.index < 2 ^ 32) }
-    requires blocks { (sizes.blocks ≡ length (map place_of (blocks_of entries.now))) × (sizes.blocks < 2 ^ 32) }
+    requires len { (sizes.index_len ≡ 16 + length (listings 0 (map place_of (blocks_of entries.now)))) × (sizes.index_len < 2 ^ 32) }
+    requires block_count { (sizes.block_count ≡ length (map place_of (blocks_of entries.now))) × (sizes.block_count < 2 ^ 32) }
     ensures { OnOk result (out.new.items ≡ out.old.items ++ index (map place_of (blocks_of entries.now))) }
 {
     put(out, &INDEX_MAGIC)?;
-    put_u32(out, (sizes.index - 12) as u32)?;
-    put_u32(out, sizes.blocks as u32)?;
+    put_u32(out, (sizes.index_len - 12) as u32)?;
+    put_u32(out, sizes.block_count as u32)?;
     put_listings(out, entries)
 }
 
@@ -169,16 +172,16 @@ fn put_listing(out: &mut Vec<u8>, at: u64, len: u32, key: &[u8]) -> Result<(), A
 
 #[tactic(auto, unfolding(crate::specs::Encoding::trailer_magic))]
 fn put_trailer(out: &mut Vec<u8>, entries: u64, sizes: Sizes) -> Result<(), AllocError>
-    requires { sizes.blocks < 2 ^ 32 }
-    ensures { OnOk result (out.new.items ≡ out.old.items ++ trailer sizes.data sizes.index entries sizes.blocks) }
+    requires { sizes.block_count < 2 ^ 32 }
+    ensures { OnOk result (out.new.items ≡ out.old.items ++ trailer sizes.data_len sizes.index_len entries sizes.block_count) }
 {
     put(out, &TRAILER_MAGIC)?;
     put_u32(out, 1)?;
     put_u32(out, 0)?;
-    put_u64(out, sizes.data)?;
-    put_u64(out, sizes.index)?;
+    put_u64(out, sizes.data_len)?;
+    put_u64(out, sizes.index_len)?;
     put_u64(out, entries)?;
-    put_u32(out, sizes.blocks as u32)?;
+    put_u32(out, sizes.block_count as u32)?;
     put_u32(out, 0)?;
     put(out, &[0; 16])
 }

@@ -9,15 +9,15 @@ pub put_block-requires-clause-keys : goal.put_block-requires-clause-keys
 put_block-requires-clause-keys c = (keys_split _ _ (subst (AllByRecursion HasKey) c.first_block.ensures.whole c.loop-rest.invariant.keys)).0
 
 pub put_block-requires-clause-room : goal.put_block-requires-clause-room
-put_block-requires-clause-room c = omega (arith, bytes-length _ _ _ c.first_block.ensures.blocks, c.loop-rest.invariant.room)
+put_block-requires-clause-room c = omega (arith, bytes-length _ _ _ c.first_block.ensures.cut, c.loop-rest.invariant.room)
 
 pub loop-rest-preserved : goal.loop-rest-preserved
 loop-rest-preserved c =
     let l = c.loop-rest in
     record {
-      spelled = more_bytes l.rest.now _ _ l.out.items _ _ c.first_block.ensures.blocks c.in_ok-put_block.ensures l.invariant.spelled;
+      spelled = more_bytes l.rest.now _ _ l.out.items _ _ c.first_block.ensures.cut c.in_ok-put_block.ensures l.invariant.spelled;
       keys = (keys_split _ _ (subst (AllByRecursion HasKey) c.first_block.ensures.whole l.invariant.keys)).1;
-      room = omega (arith, bytes-length _ _ _ c.first_block.ensures.blocks, l.invariant.room);
+      room = omega (arith, bytes-length _ _ _ c.first_block.ensures.cut, l.invariant.room);
     }
 
 pub returns : goal.returns

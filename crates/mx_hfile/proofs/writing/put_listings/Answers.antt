@@ -14,10 +14,10 @@ pub loop-rest-preserved : goal.loop-rest-preserved
 loop-rest-preserved c =
     let l = c.loop-rest in
     let b = c.first_block.result.0.now in
-    let all = bytes-length l.rest.now _ b c.first_block.ensures.blocks in
+    let all = bytes-length l.rest.now _ b c.first_block.ensures.cut in
     let len : c.body_len.result ≡ length (body b) = omega (arith, all, l.invariant.room) in
     record {
-      spelled = more_listings_put l.at _ _ l.rest.now _ b _ l.out.items _ _ c.first_block.ensures.blocks (omega arith) (omega arith) c.first_key.ensures c.in_ok-put_listing.ensures l.invariant.spelled;
+      spelled = more_listings_put l.at _ _ l.rest.now _ b _ l.out.items _ _ c.first_block.ensures.cut (omega arith) (omega arith) c.first_key.ensures c.in_ok-put_listing.ensures l.invariant.spelled;
       keys = (keys_split _ _ (subst (AllByRecursion HasKey) c.first_block.ensures.whole l.invariant.keys)).1;
       room = omega (arith, all, l.invariant.room);
     }

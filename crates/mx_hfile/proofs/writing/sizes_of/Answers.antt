@@ -8,33 +8,33 @@ use Rattle.mx_hfile.proofs.writing.sizes_of.Goals as goal
 pub loop-rest-preserved : goal.loop-rest-preserved
 loop-rest-preserved c =
     let l = c.loop-rest in
-    let e = c.first_block.ensures.blocks in
+    let e = c.first_block.ensures.cut in
     record {
       bytes = omega (arith, bytes-length _ _ _ e, l.invariant.bytes);
       index = omega (arith, listings-first-length _ _ _ e, ap length c.first_key.ensures, l.invariant.index);
-      blocks = omega (arith, one_less _ _ _ e, l.invariant.blocks);
+      block_count = omega (arith, one_less _ _ _ e, l.invariant.block_count);
       few = omega (arith, c.first_block.ensures.behind, l.invariant.few);
       bytes_fit = omega arith;
       index_fits = omega arith;
     }
 
-pub returns-clause-data : goal.returns-clause-data
-returns-clause-data c =
+pub returns-clause-data_len : goal.returns-clause-data_len
+returns-clause-data_len c =
     let l = c.loop-rest in
     let test : eqb (length l.rest.now) 0 ≡ true = sym c.is_empty.ensures ∙ c.loop-rest-test.false in
     let none : length l.rest.now ≡ 0 = grind (arith, nat_tests) in
     omega (arith, (nothing_left l.rest.now none).0, l.invariant.bytes, l.invariant.bytes_fit)
 
-pub returns-clause-index : goal.returns-clause-index
-returns-clause-index c =
+pub returns-clause-index_len : goal.returns-clause-index_len
+returns-clause-index_len c =
     let l = c.loop-rest in
     let test : eqb (length l.rest.now) 0 ≡ true = sym c.is_empty.ensures ∙ c.loop-rest-test.false in
     let none : length l.rest.now ≡ 0 = grind (arith, nat_tests) in
     omega (arith, (nothing_left l.rest.now none).1, l.invariant.index, l.invariant.index_fits, index-length (map place_of (blocks_of c.args.entries.now)))
 
-pub returns-clause-blocks : goal.returns-clause-blocks
-returns-clause-blocks c =
+pub returns-clause-block_count : goal.returns-clause-block_count
+returns-clause-block_count c =
     let l = c.loop-rest in
     let test : eqb (length l.rest.now) 0 ≡ true = sym c.is_empty.ensures ∙ c.loop-rest-test.false in
     let none : length l.rest.now ≡ 0 = grind (arith, nat_tests) in
-    omega (arith, (nothing_left l.rest.now none).2, l.invariant.blocks)
+    omega (arith, (nothing_left l.rest.now none).2, l.invariant.block_count)

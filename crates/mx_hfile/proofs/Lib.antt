@@ -1,0 +1,10 @@
+pub mod FieldLemmas
+pub mod Loops
+pub mod PlaceLemmas
+pub mod FileSteps
+pub mod DividingLemmas
+pub mod DivisionLemmas
+pub mod OrderLemmas
+pub mod DataLemmas
+pub mod TrailerLemmas
+pub mod FileLemmas

@@ -1,0 +1,4 @@
+pub mod Encoding
+pub mod Division
+pub mod Decoding
+pub mod Seen

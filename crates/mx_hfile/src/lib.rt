@@ -1,0 +1,41 @@
+//! Files of entries in the order of their keys, as the index keeps its bases: data blocks, an index block, a trailer.
+//!
+//! Each list of entries has one spelling (`specs/Encoding.antt`): keys rise strictly in byte order and have 1 to 65,535
+//! bytes, and a block takes entries as long as its body has fewer than 16,384 bytes (`specs/Division.antt`). Numbers
+//! are big-endian. A file has at most 268,435,456 bytes.
+//!
+//! ```text
+//! file    = block* index trailer
+//! block   = "DATABLK*" body-length:u32 (key-length:u16 key value-length:u32 value)+
+//! index   = "IDXROOT2" body-length:u32 blocks:u32 (offset:u64 block-length:u32 key-length:u16 first-key)*
+//! trailer = "MDTTRAIL" 1:u32 0:u32 index-offset:u64 index-length:u64 entries:u64 blocks:u32 0:u32 16 zero bytes
+//! ```
+//!
+//! A reader goes by this order: the length of the file, the trailer, the index block, the data blocks. A field is held
+//! against what was read before it, so a first key in the index that isn't the block's is a fault of the block; that
+//! there are as many entries as the trailer says is tested last, and is a fault of the trailer (`specs/Decoding.antt`).
+//!
+//! | call | contract |
+//! |---|---|
+//! | `write` | the one file of the entries |
+//! | `size` | its length, without writing it |
+//! | `read` | the entries whose file the bytes are, all of them; else the place of the first broken rule |
+//! | `one_division`, `one_list` | the blocks of entries divide them, and no other blocks do; no two lists have one file |
+#![tactic(auto)]
+
+mod blocks;
+mod dividing;
+mod error;
+mod fields;
+mod listing;
+mod reading;
+mod trailer;
+mod writing;
+
+pub use dividing::one_division;
+pub use error::HFileError;
+pub use reading::{MOST_BYTES, one_list, read};
+pub use writing::{size, write};
+
+#[cfg(test)]
+mod tests;

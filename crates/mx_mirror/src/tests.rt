@@ -8,7 +8,6 @@ use mx_schema::Schema;
 use mx_store::{Change, MemStore, Store, StoreError};
 use std::alloc::Global;
 use std::marker::Brand;
-use std::process::Abort;
 use std::test::Fail;
 
 // A store in memory that tells nothing, as one over a disk does.
@@ -129,45 +128,58 @@ fn change(
     })
 }
 
-// What is known once a change failed, which was applied or not, and its path was read: the count of changes, and whether its
-// name stands. Before that no other change is made, and behind it one is.
-fn settled<R: Abort + AllocGlobal>(
-    rt: &R,
+// A table of which a change failed, and was applied or not.
+fn doubtful(
+    alloc: Global,
     standing: &[&str],
     asked: Change,
     applied: bool,
-) -> Result<(u64, bool), Fail> {
-    let alloc = rt.alloc();
-    let path = Path::parse(alloc, REQUESTED)?;
-    let other = create(alloc, COMMIT)?;
-    let again = create(alloc, COMMIT)?;
+) -> Result<Mirrored<Quiet, Brand>, Fail> {
     let fails = [(standing.len() as u64, applied)];
     let mut table = table(alloc, standing, &fails)?;
-    let answered = change(alloc, &mut table, asked)?;
-    assert_eq!(rt; answered, "store fault");
-    let before = table.seq();
-    assert_eq!(rt; before, 0);
-    let answered = change(alloc, &mut table, other)?;
-    assert_eq!(rt; answered, "in doubt");
-    let settled = table.settle(alloc);
-    assert!(rt; settled.is_ok());
-    let seq = table.seq();
-    let stands = table.mirror().holds(&path);
-    let answered = change(alloc, &mut table, again)?;
-    assert_eq!(rt; answered, "made");
-    Ok((seq, stands))
+    if change(alloc, &mut table, asked)? == "store fault" {
+        Ok(table)
+    } else {
+        Err(Fail::new("the change fails"))
+    }
+}
+
+// Whether no other change is made before the doubt is settled, and one is behind that.
+fn is_blocked_until_settled(
+    alloc: Global,
+    table: &mut Mirrored<Quiet, Brand>,
+) -> Result<bool, Fail> {
+    let blocked = change(alloc, table, create(alloc, COMMIT)?)? == "in doubt";
+    let settled = table.settle(alloc).is_ok();
+    Ok(blocked && settled && change(alloc, table, create(alloc, COMMIT)?)? == "made")
 }
 
 #[test]
 fn a_change_that_fails_is_in_doubt_until_its_path_is_read(rt: HostRuntime) -> Result<(), Fail> {
     let alloc = rt.alloc();
-    for (applied, seq, stands) in [(true, 1, true), (false, 0, false)] {
-        let known = settled(&rt, &[], create(alloc, REQUESTED)?, applied)?;
-        assert_eq!(rt; known, (seq, stands), "a create, applied {applied}");
+    for (applied, seq) in [(true, 2), (false, 1)] {
+        let mut table = doubtful(alloc, &[], create(alloc, REQUESTED)?, applied)?;
+        assert!(rt; is_blocked_until_settled(alloc, &mut table)?);
+        assert_eq!(rt; table.seq(), seq);
+        assert_eq!(rt;
+            table.mirror().holds(&Path::parse(alloc, REQUESTED)?),
+            applied
+        );
     }
-    for (applied, seq, stands) in [(true, 1, false), (false, 0, true)] {
-        let known = settled(&rt, &[REQUESTED], delete(alloc, REQUESTED)?, applied)?;
-        assert_eq!(rt; known, (seq, stands), "a delete, applied {applied}");
+    Ok(())
+}
+
+#[test]
+fn a_delete_that_fails_is_in_doubt_until_its_path_is_read(rt: HostRuntime) -> Result<(), Fail> {
+    let alloc = rt.alloc();
+    for (applied, seq) in [(true, 2), (false, 1)] {
+        let mut table = doubtful(alloc, &[REQUESTED], delete(alloc, REQUESTED)?, applied)?;
+        assert!(rt; is_blocked_until_settled(alloc, &mut table)?);
+        assert_eq!(rt; table.seq(), seq);
+        assert_eq!(rt;
+            table.mirror().holds(&Path::parse(alloc, REQUESTED)?),
+            !applied
+        );
     }
     Ok(())
 }

@@ -83,7 +83,8 @@ fn start() -> Instant
     }
 }
 
-fn first_base() -> ObjectName
+// The base that a table begins with.
+pub(crate) fn first_base() -> ObjectName
     ensures { result ≡ first_base }
 {
     ObjectName::Base {
@@ -94,7 +95,8 @@ fn first_base() -> ObjectName
     }
 }
 
-fn indexing(completed: bool) -> ObjectName
+// The object of the first base, or the mark before it.
+pub(crate) fn indexing(completed: bool) -> ObjectName
     ensures { result ≡ ObjectName.Metadata 0 kinds.Indexing completed }
 {
     ObjectName::Metadata {

@@ -1,4 +1,4 @@
-use crate::{InitError, init};
+use crate::{InitError, ReadError, init, read_folder};
 use mx_base::Path;
 use mx_lists::Text;
 use mx_schema::Schema;
@@ -118,6 +118,198 @@ fn a_call_that_fails_leaves_the_first_objects_of_a_new_table(rt: HostRuntime) ->
         let said = begun(&rt, &mut store)?;
         assert_eq!(rt; said.as_str(), "fault", "at {call}");
         expect_made(&rt, &store, made);
+    }
+    Ok(())
+}
+
+// What the opening says: the paths of the folder with a space behind each, or another word and the path that is damaged.
+fn opened(alloc: Global, store: &mut MemStore) -> Result<String, Fail> {
+    let mut said = String::new(alloc);
+    match read_folder(alloc, store) {
+        Ok(folder) => {
+            for path in folder
+                .names
+                .as_slice()
+                .iter()
+                .chain(folder.others.as_slice())
+            {
+                said.push_str(path.as_str())?;
+                said.push(' ')?;
+            }
+        }
+        Err(ReadError::NotATable) => said.push_str("no table")?,
+        Err(ReadError::Version { found }) => said = format!(in alloc; "version {found}")?,
+        Err(ReadError::Damaged { path }) => said.push_str(path.as_str())?,
+        Err(ReadError::StoreFault) => said.push_str("fault")?,
+        Err(ReadError::NoMemory) => said.push_str("no memory")?,
+    }
+    Ok(said)
+}
+
+fn put<R: Abort + AllocGlobal>(
+    rt: &R,
+    store: &mut MemStore,
+    path: &str,
+    text: &str,
+) -> Result<(), Fail> {
+    let alloc = rt.alloc();
+    let path = Path::parse(alloc, path)?;
+    store
+        .put(alloc, &path, text.as_bytes())
+        .ok()
+        .expect(rt, "an answer");
+    Ok(())
+}
+
+// A new table, and in it these two objects; an empty path is none.
+fn table_with<R: Abort + AllocGlobal>(
+    rt: &R,
+    one: (&str, &str),
+    other: (&str, &str),
+) -> Result<MemStore, Fail> {
+    let mut store = MemStore::empty(rt.alloc());
+    begun(rt, &mut store)?;
+    for (path, text) in [one, other] {
+        if !path.is_empty() {
+            put(rt, &mut store, path, text)?;
+        }
+    }
+    Ok(store)
+}
+
+const NONE: (&str, &str) = ("", "");
+
+const COMMIT: (&str, &str) = (
+    ".hoodie/20250101000000000.commit",
+    "{\"partitionToWriteStats\":{}}",
+);
+
+const DELTA: &str = ".hoodie/metadata/.hoodie/20250101000000000.deltacommit";
+
+const LOG: &str = ".hoodie/metadata/files/files-0000_20250101000000000.log";
+
+const REQUESTED: &str = ".hoodie/20250101000000000.commit.requested";
+
+const INFLIGHT: &str = ".hoodie/20250101000000000.inflight";
+
+const NAMES_LOG: &str = "{\"logs\":[\".hoodie/metadata/files/files-0000_20250101000000000.log\"]}";
+
+const OTHER_INSTANT: &str =
+    "{\"paths\":[\"p/11111111-1111-4111-8111-111111111111_0-0-0_20250101000000001.parquet\"]}";
+
+// Two objects beside those of a new table, and the least path that they damage.
+const DAMAGE: [((&str, &str), (&str, &str), &str); 14] = [
+    ((".hoodie/x", ""), NONE, ".hoodie/x"),
+    ((REQUESTED, "[]"), NONE, REQUESTED),
+    ((REQUESTED, "{\"a\":1}"), NONE, REQUESTED),
+    ((INFLIGHT, OTHER_INSTANT), NONE, INFLIGHT),
+    (
+        (".hoodie/20250101000000000.clean", "{}"),
+        NONE,
+        ".hoodie/20250101000000000.clean",
+    ),
+    (COMMIT, NONE, DELTA),
+    (COMMIT, (DELTA, NAMES_LOG), LOG),
+    ((DELTA, "{}"), NONE, DELTA),
+    ((LOG, "{}"), NONE, LOG),
+    (
+        (LOG, "{}"),
+        (".hoodie/x", ""),
+        ".hoodie/metadata/files/files-0000_20250101000000000.log",
+    ),
+    ((DELTA, "{}"), (LOG, "{}"), DELTA),
+    (
+        (
+            ".hoodie/metadata/files/files-0000_00000000000000000001.hfile",
+            "{}",
+        ),
+        NONE,
+        ".hoodie/metadata/files/files-0000_00000000000000000001.hfile",
+    ),
+    (
+        (
+            ".hoodie/metadata/files/files-0000_00000000000000000010.hfile",
+            "{} ",
+        ),
+        NONE,
+        ".hoodie/metadata/files/files-0000_00000000000000000010.hfile",
+    ),
+    (
+        (".hoodie/hoodie.properties", "hoodie.table.version=6\n"),
+        NONE,
+        ".hoodie/hoodie.properties",
+    ),
+];
+
+#[test]
+fn the_least_path_that_shows_damage_is_told(rt: HostRuntime) -> Result<(), Fail> {
+    let alloc = rt.alloc();
+    for (one, other, damaged) in DAMAGE {
+        let mut store = table_with(&rt, one, other)?;
+        let said = opened(alloc, &mut store)?;
+        assert_eq!(rt; said.as_str(), damaged);
+    }
+    Ok(())
+}
+
+#[test]
+fn a_base_that_is_named_cannot_be_missing(rt: HostRuntime) -> Result<(), Fail> {
+    let alloc = rt.alloc();
+    let mut store = table_with(&rt, NONE, NONE)?;
+    let base = Path::parse(
+        alloc,
+        ".hoodie/metadata/files/files-0000_00000000000000000010.hfile",
+    )?;
+    store.delete(alloc, &base).ok().expect(&rt, "an answer");
+    let said = opened(alloc, &mut store)?;
+    assert_eq!(rt; said.as_str(), base.as_str());
+    Ok(())
+}
+
+#[test]
+fn another_version_is_told_before_damage(rt: HostRuntime) -> Result<(), Fail> {
+    let alloc = rt.alloc();
+    let config = "hoodie.table.metadata.partitions=files\n\nhoodie.table.version=5\n";
+    let mut store = table_with(
+        &rt,
+        (".hoodie/hoodie.properties", config),
+        (".hoodie/x", ""),
+    )?;
+    let said = opened(alloc, &mut store)?;
+    assert_eq!(rt; said.as_str(), "version 5");
+    Ok(())
+}
+
+#[test]
+fn a_folder_without_a_config_is_no_table(rt: HostRuntime) -> Result<(), Fail> {
+    let alloc = rt.alloc();
+    let mut store = MemStore::empty(alloc);
+    put(&rt, &mut store, ".hoodie/x", "")?;
+    let said = opened(alloc, &mut store)?;
+    assert_eq!(rt; said.as_str(), "no table");
+    Ok(())
+}
+
+#[test]
+fn a_pending_commit_and_a_stray_file_are_no_damage(rt: HostRuntime) -> Result<(), Fail> {
+    let alloc = rt.alloc();
+    let mut store = table_with(&rt, (REQUESTED, " { } "), ("a/b", "x"))?;
+    let said = opened(alloc, &mut store)?;
+    assert_eq!(rt;
+        said.as_str(),
+        ".hoodie/20250101000000000.commit.requested .hoodie/hoodie.properties .hoodie/metadata/.hoodie/00000000000000000010.deltacommit .hoodie/metadata/.hoodie/00000000000000000010.deltacommit.inflight .hoodie/metadata/files/files-0000_00000000000000000010.hfile a/b "
+    );
+    Ok(())
+}
+
+#[test]
+fn a_read_that_fails_is_a_fault(rt: HostRuntime) -> Result<(), Fail> {
+    let alloc = rt.alloc();
+    for call in 5..10 {
+        let mut store = table_with(&rt, NONE, NONE)?;
+        store.fail(call, false)?;
+        let said = opened(alloc, &mut store)?;
+        assert_eq!(rt; said.as_str(), "fault", "at {call}");
     }
     Ok(())
 }

@@ -1,6 +1,7 @@
 pub mod NamedLemmas
 pub mod ReadingLemmas
 pub mod ActionLemmas
+pub mod BeginLemmas
 pub mod LooseLemmas
 pub mod CompletionLemmas
 pub mod PendingLemmas

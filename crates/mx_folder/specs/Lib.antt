@@ -3,3 +3,4 @@ pub mod Actions
 pub mod Reading
 pub mod Folder
 pub mod Steps
+pub mod Begin

@@ -1,7 +1,10 @@
 ghost use Rattle.std.specs.Prelude.{◌≡◌, List, ℕ, Some, false};
 ghost use Rattle.mx_base.specs.Objects.{IsObjectName, object_path};
 ghost use Rattle.mx_base.specs.declared.object_name.ObjectName.{ObjectName};
-ghost use Rattle.mx_store.specs.Objects.{Objects, at_path};
+ghost use Rattle.mx_schema.specs.Columns.{IsSchema};
+ghost use Rattle.mx_schema.specs.declared.column.Column.{Column};
+ghost use Rattle.mx_store.specs.Objects.{Objects, at_path, objects_of};
+ghost use Rattle.mx_folder.specs.Begin.{init_changes};
 ghost use Rattle.mx_folder.specs.Named.{commit_name, is_hidden};
 ghost use Rattle.mx_folder.specs.Actions.{IsCompleted};
 ghost use Rattle.mx_folder.specs.Folder.{IsValidTable};
@@ -25,4 +28,10 @@ pub fn what_is_outside_is_loose()
 /// The create that completes a commit keeps a table, where the commit may be completed by it.
 pub fn a_completion_keeps_a_table()
     ensures { (old new : Objects) (at : ℕ) (bytes : List ℕ) → MayComplete old at bytes → at_path new (object_path (commit_name at)) ≡ Some bytes → DifferAt (object_path (commit_name at)) old new → IsValidTable old → IsValidTable new }
+{}
+
+/// The changes that make a new table leave a table, of which no commit is completed.
+pub fn a_new_table_is_valid()
+    ensures valid { (schema : List Column) → IsSchema schema → IsValidTable (objects_of (init_changes schema)) }
+    ensures fresh { (schema : List Column) (at : ℕ) → ¬ (IsCompleted (objects_of (init_changes schema)) at) }
 {}

@@ -1,0 +1,9 @@
+pub mod KeyLemmas
+pub mod InitLemmas
+pub mod KindLemmas
+pub mod ContextLemmas
+pub mod ObjectLemmas
+pub mod LeastLemmas
+pub mod FaultLemmas
+pub mod OpeningLemmas
+pub mod HeldLemmas

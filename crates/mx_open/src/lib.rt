@@ -1,0 +1,25 @@
+//! The two ways in which a table begins: a new one is made, or a folder is read.
+//!
+//! | call | contract |
+//! |---|---|
+//! | `init` | makes exactly the objects of a new table in a folder that holds nothing, and leaves a valid one without commits; else the first path that stands (`specs/Init.antt`) |
+//! | `read_folder` | what a folder holds, exactly where it opens; else the first cause: no config, another version, the least path that shows damage (`specs/Opening.antt`) |
+//!
+//! `mx_folder` says when a folder opens. The objects below `.hoodie/` are read once each and held until the damage is
+//! looked for: first each object by its name (`src/objects.rt`), then what is needed and missing (`src/faults.rt`).
+#![tactic(auto)]
+
+mod context;
+mod error;
+mod faults;
+mod folder;
+mod held;
+mod kinds;
+mod new_table;
+mod objects;
+#[cfg(test)]
+mod tests;
+
+pub use error::{InitError, ReadError};
+pub use folder::{Folder, read_folder};
+pub use new_table::init;

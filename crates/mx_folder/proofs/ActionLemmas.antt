@@ -1,7 +1,7 @@
 -- The commits that count, before and after a change.
-use Rattle.std.proofs.Common.{◌≡◌, ◌≢◌, ℕ, zero, suc, ◌+◌, ◌<◌, ◌≤◌, arith, List, [], ◌∷◌, ◌++◌, Option, Some, None, IsSome, refl, sym, ◌∙◌, ap, subst, ⊎_elim, append-nil}
+use Rattle.std.proofs.Common.{◌≡◌, ◌≢◌, ℕ, zero, suc, ◌<◌, ◌≤◌, arith, List, [], ◌∷◌, ◌++◌, Option, Some, None, IsSome, refl, sym, ◌∙◌, ap, subst, ⊎_elim, append-nil}
 use Rattle.std.specs.Prelude.{option_and_then, option_map, unwrap_or}
-use Rattle.std.specs.List.{flat_map, fold}
+use Rattle.std.specs.List.{fold}
 use Rattle.std.specs.FinMap as finmap
 use Rattle.std.specs.Option.{option_to_list}
 use Rattle.std.proofs.lemmas.Grind.{flat_map-append, fold-append}
@@ -11,7 +11,6 @@ use Rattle.mx_meta.specs.CommitText.{commit_meta_of}
 use Rattle.mx_meta.specs.declared.added.AddedFile.{AddedFile}
 use Rattle.mx_meta.specs.declared.commit_meta.CommitMeta.{CommitMeta}
 use Rattle.mx_model.specs.declared.action.Action.{Action}
-use Rattle.mx_model.specs.Listing.{files_of, listed_files}
 use Rattle.mx_model.specs.Maps.{FilesMap, files_map, with_file}
 use Rattle.mx_model.specs.Timeline.{action_of}
 use Rattle.mx_store.specs.Objects.{Objects}

@@ -1,13 +1,11 @@
 -- The create that completes a commit.
-use Rattle.std.proofs.Common.{◌≡◌, ◌≢◌, ◌⊎◌, inl, inr, ⊎_elim, ℕ, ◌≤◌, ◌<◌, arith, Bool, true, false, List, [], ◌∷◌, ◌++◌, Option, Some, None, IsSome, refl, sym, ◌∙◌, ap, subst, append-nil}
-use Rattle.std.specs.Prelude.{option_and_then, All, Contains, unwrap_or, nat_eq}
-use Rattle.std.specs.List.{flat_map}
-use Rattle.std.proofs.Math.Nat.{eq-or-lt_of_le}
+use Rattle.std.proofs.Common.{◌≡◌, ◌≢◌, ◌⊎◌, inl, inr, ⊎_elim, ℕ, ◌≤◌, ◌<◌, true, false, List, [], ◌∷◌, ◌++◌, Option, Some, None, IsSome, refl, sym, ◌∙◌, ap, subst}
+use Rattle.std.specs.Prelude.{option_and_then, Contains, unwrap_or, nat_eq}
 use Rattle.std.proofs.lemmas.Bool.{cases_lt}
 use Rattle.std.proofs.lemmas.Bool.Decides.{eqb_tells}
 use Rattle.std.proofs.lemmas.List.Elements.{All-contains}
 use Rattle.std.proofs.lemmas.Grind.{flat_map-append}
-use Rattle.mx_base.specs.Objects.{IsObjectName, object_path}
+use Rattle.mx_base.specs.Objects.{object_path}
 use Rattle.mx_base.specs.declared.object_name.ObjectName.{ObjectName}
 use Rattle.mx_base.specs.declared.object_name.ObjectName.TheVariants.{Config, Timeline}
 use Rattle.mx_meta.specs.CommitText.{commit_meta_of}
@@ -15,12 +13,11 @@ use Rattle.mx_meta.specs.ShardFiles.{delta_meta_of}
 use Rattle.mx_meta.specs.declared.added.AddedFile.{AddedFile}
 use Rattle.mx_model.specs.declared.action.Action.{Action}
 use Rattle.mx_model.specs.Listing.{files_of, listed_files}
-use Rattle.mx_model.specs.Maps.{FilesMap, files_map}
+use Rattle.mx_model.specs.Maps.{files_map}
 use Rattle.mx_store.specs.Objects.{Objects, at_path}
 use Rattle.mx_store.proofs.Paths.{cases_path}
-use Rattle.mx_folder.specs.Named.{object_at, commit_name, delta_name, log_name, first_bases, IsHidden}
+use Rattle.mx_folder.specs.Named.{object_at, commit_name, delta_name, log_name, first_bases}
 use Rattle.mx_folder.specs.Actions.{IsCompleted, action_at, actions_upto, added_at, logged_files}
-use Rattle.mx_folder.specs.Reading.{IsAvailable}
 use Rattle.mx_folder.specs.Folder.{IsObjectAt, IsNeeded, IsSound, IsOpenable, IsValidTable}
 use Rattle.mx_folder.specs.Steps.{DifferAt, MayComplete}
 use Rattle.mx_folder.proofs.NamedLemmas.{object_at-same, object_at-is, object_at-none, object_at-some, other_path, is_some_same}

@@ -1,5 +1,5 @@
 -- A change at a path on which nothing that counts rests.
-use Rattle.std.proofs.Common.{◌≡◌, ◌≢◌, ◌⊎◌, inl, inr, ⊎_elim, ℕ, ◌≤◌, arith, List, Option, Some, None, IsSome, refl, sym, ◌∙◌, ap, subst}
+use Rattle.std.proofs.Common.{◌≡◌, ◌≢◌, inl, inr, ⊎_elim, ℕ, arith, List, Option, sym, ◌∙◌, ap, subst}
 use Rattle.std.specs.Prelude.{option_and_then}
 use Rattle.mx_base.specs.Objects.{object_path}
 use Rattle.mx_base.specs.declared.object_name.ObjectName.TheVariants.{Config}
@@ -8,12 +8,11 @@ use Rattle.mx_meta.specs.declared.added.AddedFile.{AddedFile}
 use Rattle.mx_model.specs.declared.action.Action.{Action}
 use Rattle.mx_model.specs.Listing.{listed_files}
 use Rattle.mx_model.specs.Maps.{files_map}
-use Rattle.mx_store.specs.Objects.{Objects, at_path}
+use Rattle.mx_store.specs.Objects.{Objects}
 use Rattle.mx_store.proofs.Paths.{cases_path}
-use Rattle.mx_folder.specs.Named.{object_at, commit_name, delta_name, log_name, first_bases, IsHidden}
-use Rattle.mx_folder.specs.Actions.{IsCompleted, actions_upto, logged_files}
-use Rattle.mx_folder.specs.Reading.{IsAvailable}
-use Rattle.mx_folder.specs.Folder.{IsObjectAt, NeedsDelta, NeedsLog, NeedsBase, IsNeeded, IsSound, IsOpenable, IsValidTable}
+use Rattle.mx_folder.specs.Named.{object_at, commit_name, delta_name, log_name, first_bases}
+use Rattle.mx_folder.specs.Actions.{IsCompleted, logged_files}
+use Rattle.mx_folder.specs.Folder.{IsObjectAt, IsNeeded, IsSound, IsOpenable, IsValidTable}
 use Rattle.mx_folder.specs.Steps.{DifferAt, IsLoose, MayStand}
 use Rattle.mx_folder.proofs.NamedLemmas.{object_at-same, is_some_same}
 use Rattle.mx_folder.proofs.ReadingLemmas.{available_from, named_bases-same, reads_same}

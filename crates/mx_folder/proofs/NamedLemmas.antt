@@ -1,6 +1,6 @@
 -- Objects by their names, before and after a change.
-use Rattle.std.proofs.Common.{◌≡◌, ◌≢◌, ◌⊎◌, inl, inr, ℕ, Bool, true, false, cond, List, ◌++◌, Option, Some, None, IsSome, refl, sym, ◌∙◌, ap, subst, codes}
-use Rattle.mx_base.specs.Objects.{is_object_name, IsObjectName, object_path, shard_front}
+use Rattle.std.proofs.Common.{◌≡◌, ◌≢◌, ℕ, Bool, true, false, cond, List, Option, Some, None, IsSome, refl, sym, ◌∙◌, ap, subst}
+use Rattle.mx_base.specs.Objects.{is_object_name, IsObjectName, object_path}
 use Rattle.mx_base.specs.declared.object_name.ObjectName.{ObjectName}
 use Rattle.mx_base.proofs.ObjectLemmas.{object_path-injective}
 use Rattle.mx_store.specs.Objects.{Objects, at_path}

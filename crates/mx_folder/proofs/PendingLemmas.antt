@@ -1,16 +1,14 @@
 -- Nothing that counts rests on a commit before it is completed, nor on what stands outside `.hoodie/`.
-use Rattle.std.proofs.Common.{◌≡◌, ◌≢◌, ◌⊎◌, inl, inr, ℕ, Bool, true, false, List, ◌++◌, Option, Some, IsSome, refl, sym, ◌∙◌, ap, subst, codes, nat_eq, ◌&&◌, get_or}
+use Rattle.std.proofs.Common.{◌≡◌, ◌≢◌, inl, inr, ℕ, Bool, true, false, List, refl, sym, ◌∙◌, ap, subst, ◌&&◌}
 use Rattle.std.specs.Prelude.{not, nat_lt, ◌||◌}
-use Rattle.std.specs.List.{starts_with}
-use Rattle.mx_base.specs.Objects.{IsObjectName, is_instant, object_path, shard_front, part_front, timeline_ending, metadata_ending, base_ending}
+use Rattle.mx_base.specs.Objects.{IsObjectName, is_instant, object_path}
 use Rattle.mx_base.specs.declared.object_name.ObjectName.{ObjectName}
 use Rattle.mx_base.specs.declared.object_name.ObjectName.TheVariants.{Config, Timeline, Metadata, Base, Log}
-use Rattle.mx_base.specs.declared.part.Part.{Part}
-use Rattle.mx_base.proofs.ObjectLemmas.{object_path-injective, outside}
-use Rattle.mx_store.specs.Objects.{Objects, at_path}
-use Rattle.mx_folder.specs.Named.{object_at, commit_name, delta_name, log_name, first_bases, is_hidden, IsHidden}
+use Rattle.mx_base.proofs.ObjectLemmas.{object_path-injective}
+use Rattle.mx_store.specs.Objects.{Objects}
+use Rattle.mx_folder.specs.Named.{commit_name, delta_name, log_name, first_bases, is_hidden, IsHidden}
 use Rattle.mx_folder.specs.Actions.{IsCompleted}
-use Rattle.mx_folder.specs.Folder.{NeedsDelta, NeedsLog, NeedsBase, IsNeeded}
+use Rattle.mx_folder.specs.Folder.{IsNeeded}
 use Rattle.mx_folder.specs.Steps.{IsLoose, IsMadeBefore}
 use Rattle.mx_folder.proofs.NamedLemmas.{object_at-stands}
 

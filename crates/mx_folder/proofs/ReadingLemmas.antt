@@ -1,6 +1,6 @@
 -- What objects are to be says the same where the config and the object of the first base are the same.
-use Rattle.std.proofs.Common.{◌≡◌, ℕ, Bool, List, Option, Some, None, IsSome, IfSome, refl, sym, ◌∙◌, ap, subst}
-use Rattle.std.specs.Prelude.{All, Contains, option_and_then}
+use Rattle.std.proofs.Common.{◌≡◌, ℕ, List, Option, IsSome, IfSome, sym, ◌∙◌, ap, subst}
+use Rattle.std.specs.Prelude.{option_and_then}
 use Rattle.std.proofs.lemmas.List.Elements.{All-weaker}
 use Rattle.mx_base.specs.declared.object_name.ActionKind.TheVariants as action
 use Rattle.mx_base.specs.declared.object_name.BaseKind.TheVariants as base
@@ -10,7 +10,6 @@ use Rattle.mx_base.specs.declared.object_name.ObjectName.TheVariants.{Config, Ti
 use Rattle.mx_base.specs.declared.part.Part.{Part}
 use Rattle.mx_store.specs.Objects.{Objects}
 use Rattle.mx_meta.specs.ShardFiles.{base_meta_of}
-use Rattle.mx_meta.specs.Views.{Bases}
 use Rattle.mx_folder.specs.Named.{object_at, first_bases}
 use Rattle.mx_folder.specs.Reading.{Reads, ReadsAsConfig, IsAvailable, HasBase, named_bases}
 

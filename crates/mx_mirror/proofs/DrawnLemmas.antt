@@ -1,8 +1,7 @@
 -- The instant that an object draws.
-use Rattle.std.proofs.Common.{◌≡◌, ℕ, List, Option, Some, None, IfSome, refl, sym, ◌∙◌, ap, subst}
+use Rattle.std.proofs.Common.{◌≡◌, ℕ, List, Option, Some, None, IfSome, refl, sym, ◌∙◌, ap}
 use Rattle.std.specs.Prelude.{max, unwrap_or}
 use Rattle.mx_base.specs.Objects.{IsObjectName, object_path}
-use Rattle.mx_base.specs.declared.object_name.ActionKind.{ActionKind}
 use Rattle.mx_base.specs.declared.object_name.ActionState.TheVariants.{Requested, Inflight, Completed}
 use Rattle.mx_base.specs.declared.object_name.ObjectName.{ObjectName}
 use Rattle.mx_base.specs.declared.object_name.ObjectName.TheVariants.{Config, Timeline, Metadata, Base, Log}

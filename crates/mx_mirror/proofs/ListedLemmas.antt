@@ -1,5 +1,5 @@
 -- The mirror of a folder's listing.
-use Rattle.std.proofs.Common.{◌≡◌, ◌≢◌, ◌⊎◌, ⊎_elim, ℕ, Bool, true, false, ◌&&◌, ◌||◌, List, [], ◌∷◌, Option, Some, None, is_some, refl, sym, ◌∙◌, ap, subst, codes, cond}
+use Rattle.std.proofs.Common.{◌≡◌, ◌≢◌, ⊎_elim, ℕ, Bool, true, false, ◌&&◌, ◌||◌, List, [], ◌∷◌, Some, None, is_some, refl, sym, ◌∙◌, ap, subst, codes, cond}
 use Rattle.std.specs.Prelude.{filter}
 use Rattle.std.specs.List.{list_any}
 use Rattle.std.specs.BTreeSet.{contains}
@@ -13,7 +13,6 @@ use Rattle.mx_props.specs.Config.{config_text}
 use Rattle.mx_store.specs.Objects.{Objects, at_path, paths_with}
 use Rattle.mx_store.proofs.Paths.{cases_path, path_same, path_other}
 use Rattle.mx_folder.specs.Named.{object_at, commit_name, is_hidden}
-use Rattle.mx_folder.proofs.NamedLemmas.{object_at-is}
 use Rattle.mx_folder.proofs.PendingLemmas.{hidden_object}
 use Rattle.mx_mirror.specs.declared.mirror.Mirror.{Mirror}
 use Rattle.mx_mirror.specs.Mirror.{IsMirrorOf, is_commit_at, is_name_at}

@@ -1,14 +1,14 @@
 -- A mirror, before and after a change of one object.
-use Rattle.std.proofs.Common.{◌≡◌, ◌≢◌, ◌⊎◌, inl, inr, ⊎_elim, cond, [], ℕ, ◌<◌, ◌^◌, Bool, true, false, not, ◌&&◌, ◌||◌, List, Option, Some, None, is_some, IsSome, refl, sym, ◌∙◌, ap, subst, codes}
+use Rattle.std.proofs.Common.{◌≡◌, ◌≢◌, ⊎_elim, cond, [], ℕ, ◌<◌, ◌^◌, Bool, true, false, not, ◌&&◌, ◌||◌, List, Option, Some, None, is_some, refl, sym, ◌∙◌, ap, subst}
 use Rattle.std.specs.Option.{option_map_or}
 use Rattle.std.specs.Prelude.{Result, Ok, Err, OnOk, OnErr}
 use Rattle.std.specs.Result.{is_ok, is_err}
-use Rattle.std.specs.BTreeSet.{contains, BTreeSet}
+use Rattle.std.specs.BTreeSet.{contains}
 use Rattle.std.specs.Ordering.{nat_cmp, eq_by_cmp}
 use Rattle.std.specs.Cmp.{nat_cmp_total, eq_by_cmp_equiv}
-use Rattle.std.specs.Cmp.Lexicographic.{slice_cmp, nat_list_cmp_total}
+use Rattle.std.specs.Cmp.Lexicographic.{slice_cmp}
 use Rattle.std.specs.FinMap as finmap
-use Rattle.std.proofs.lemmas.Bool.{and_parts, cases_lt}
+use Rattle.std.proofs.lemmas.Bool.{and_parts}
 use Rattle.std.proofs.lemmas.Bool.Decides.{Decides-ltb}
 use Rattle.std.specs.Prelude.{nat_lt}
 use Rattle.std.proofs.lemmas.Map.Lookups.{exact_unsigned}
@@ -20,7 +20,7 @@ use Rattle.mx_base.specs.declared.object_name.ObjectName.TheVariants.{Config}
 use Rattle.mx_base.proofs.PathLemmas.{IsCommitAt-commit_instant, commit_instant-commit_path}
 use Rattle.mx_props.specs.Config.{config_text}
 use Rattle.mx_store.specs.Objects.{Objects, at_path}
-use Rattle.mx_store.proofs.Paths.{cases_path, same_path, path_same, path_other, at_other, at_same, at_left, at_removed}
+use Rattle.mx_store.proofs.Paths.{cases_path, path_same, path_other, at_other, at_same, at_left, at_removed}
 use Rattle.mx_folder.specs.Named.{object_at, commit_name, is_hidden}
 use Rattle.mx_folder.proofs.NamedLemmas.{object_at-same, object_at-is, object_at-none}
 use Rattle.mx_mirror.specs.declared.mirror.Mirror.{Mirror}

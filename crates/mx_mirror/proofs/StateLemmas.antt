@@ -1,24 +1,23 @@
 -- What holds of a store and its mirror after each answer.
-use Rattle.std.proofs.Common.{◌≡◌, ◌≢◌, ◌⊎◌, inl, inr, ⊎_elim, ℕ, ◌+◌, ◌≤◌, arith, Bool, true, false, List, [], ◌∷◌, ◌++◌, length, take, Option, Some, None, IsSome, IfSome, refl, sym, ◌∙◌, ap, subst, length-append}
+use Rattle.std.proofs.Common.{◌≡◌, ◌≢◌, ◌⊎◌, inl, inr, ⊎_elim, ℕ, ◌+◌, ◌≤◌, arith, List, [], ◌∷◌, ◌++◌, length, Option, Some, None, IsSome, IfSome, refl, sym, ◌∙◌, ap, subst, length-append}
 use Rattle.std.specs.Prelude.{Result, Ok, Err}
 use Rattle.std.specs.FinMap as finmap
 use Rattle.std.proofs.lemmas.List.{take-append-le}
-use Rattle.mx_base.specs.Objects.{object_path}
 use Rattle.mx_store.specs.declared.change.Change.{Change}
 use Rattle.mx_store.specs.declared.change.Change.TheVariants.{Create, Put, Delete}
 use Rattle.mx_store.specs.Calls.{with_change, Finds}
 use Rattle.mx_store.specs.Journal.{IsAllowed}
 use Rattle.mx_store.specs.Objects.{Objects, at_path, apply, objects_of, EachSince}
 use Rattle.mx_store.proofs.Journal.{objects_of-push, EachSince-push}
-use Rattle.mx_store.proofs.Longer.{EachSince-now, length-longer}
+use Rattle.mx_store.proofs.Longer.{EachSince-now}
 use Rattle.mx_store.proofs.Paths.{cases_path, at_same, at_other, at_removed, at_left}
 use Rattle.mx_folder.specs.Folder.{IsValidTable}
 use Rattle.mx_mirror.specs.declared.mirror.Mirror.{Mirror}
 use Rattle.mx_mirror.specs.Instants.{NamesInstant, AreUpto}
-use Rattle.mx_mirror.specs.Mirror.{IsMirrorOf, IsPlain, IsReadyFor}
+use Rattle.mx_mirror.specs.Mirror.{IsMirrorOf, IsPlain}
 use Rattle.mx_mirror.specs.declared.error.ChangeError.{ChangeError}
 use Rattle.mx_mirror.specs.declared.error.ChangeError.TheVariants.{Changed}
-use Rattle.mx_mirror.specs.State.{Declines, Standing, Changes, CountsOne, CountsFaults, NamesUpto, MayChange, Holds, HoldsInDoubt, Outcomes, IsKept, StaysValid, IsLastAfter, MayMake, IsDone, path_of}
+use Rattle.mx_mirror.specs.State.{Declines, Standing, Changes, CountsOne, CountsFaults, NamesUpto, MayChange, Holds, Outcomes, IsKept, StaysValid, IsLastAfter, MayMake, IsDone, path_of}
 use Rattle.mx_mirror.proofs.MirrorLemmas.{mirror_same}
 
 -- ---- what a create made is taken away again

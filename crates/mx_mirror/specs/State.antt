@@ -6,7 +6,7 @@ use Rattle.mx_store.specs.declared.store.StoreError.{StoreError}
 use Rattle.mx_store.specs.declared.store.StoreError.TheVariants as stored
 use Rattle.mx_store.specs.Calls.{with_change, Rose, Reads}
 use Rattle.mx_store.specs.Journal.{IsAllowed}
-use Rattle.mx_store.specs.Objects.{Objects, objects_of, EachSince}
+use Rattle.mx_store.specs.Objects.{objects_of, EachSince}
 use Rattle.mx_folder.specs.Folder.{IsValidTable}
 use Rattle.mx_mirror.specs.declared.asking.Outcome.{Outcome}
 use Rattle.mx_mirror.specs.declared.asking.Outcome.TheVariants as outcome

@@ -1,4 +1,4 @@
-use Rattle.std.proofs.Common.{refl, ◌∙◌, ap, sym, not, ◌&&◌, OnOk, OnErr}
+use Rattle.std.proofs.Common.{refl, ◌∙◌, ap, sym, not, ◌&&◌}
 use Rattle.mx_mirror.proofs.MirrorLemmas.{made_mirror, same_mirror, where_ok, where_err}
 use Rattle.mx_mirror.specs.Mirror.{is_commit_at}
 use Rattle.mx_mirror.proofs.mirror.Mirror.add.Goals as goal

@@ -1,5 +1,5 @@
-use Rattle.std.proofs.Common.{◌≡◌, refl, sym, subst, ap, ◌∙◌}
-use Rattle.mx_mirror.specs.State.{Shown, MayMake, Changes, standing}
+use Rattle.std.proofs.Common.{refl, sym, subst, ap, ◌∙◌}
+use Rattle.mx_mirror.specs.State.{MayMake, Changes, standing}
 use Rattle.mx_mirror.proofs.StateLemmas.{sure_back, sure_made, sure_declined, sure_failed, changes_declined, counts_declined}
 use Rattle.mx_mirror.proofs.mirrored.Mirrored.change.Goals as goal
 

@@ -1,4 +1,4 @@
-use Rattle.std.proofs.Common.{◌≡◌, ℕ, List, Ok, sym, subst}
+use Rattle.std.proofs.Common.{ℕ, List, Ok, subst}
 use Rattle.mx_store.specs.Calls.{Finds}
 use Rattle.mx_mirror.proofs.StateLemmas.{settle_done, settle_undone}
 use Rattle.mx_mirror.proofs.mirrored.Mirrored.settle.Goals as goal

@@ -2,3 +2,4 @@ pub mod MirrorLemmas
 pub mod ListedLemmas
 pub mod StateLemmas
 pub mod DrawnLemmas
+pub mod TurnLemmas

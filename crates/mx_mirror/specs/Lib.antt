@@ -1,3 +1,4 @@
 pub mod Mirror
 pub mod Instants
 pub mod State
+pub mod Turns

@@ -13,6 +13,7 @@
 //! | `Mirror::of` | the mirror of the folder that has a config and these names |
 //! | `Mirrored::over` | a store with the mirror of what it holds |
 //! | `Mirrored::change` | makes one change, of which the caller shows that it may be made (`MayMake`); where the store fails it is in doubt, and no other is made |
+//! | `Mirrored::change_in_turn` | makes changes one after the other, up to the first one that is not made (`specs/Turns.antt`) |
 //! | `Mirrored::settle` | one read of the path in doubt: the change was applied exactly where the object stands as it leaves it |
 //! | `Mirrored::mirror`, `last`, `seq` | what is known of the folder, the last instant, and the count of changes |
 //! | `Mirrored::read_object` | the bytes of an object, by one read |
@@ -26,6 +27,7 @@ mod mirror;
 mod mirrored;
 #[cfg(test)]
 mod tests;
+mod turns;
 
 pub use asking::{is_plain, path_of};
 pub use error::ChangeError;

@@ -1,4 +1,4 @@
-ghost use Rattle.std.specs.Prelude.{◌≡◌, ℕ, ◌<◌, ◌≤◌, ◌+◌, ◌^◌, max, List, Option, Some, None, IfOk, IfSome, OnOk, OnErr};
+ghost use Rattle.std.specs.Prelude.{◌≡◌, All, ℕ, ◌<◌, ◌≤◌, ◌+◌, ◌^◌, max, List, Option, Some, None, IfOk, IfSome, OnOk, OnErr};
 ghost use Rattle.mx_store.specs.Calls.{Counts, Finds, Reads, with_change};
 ghost use Rattle.mx_store.specs.Journal.{Begins};
 ghost use Rattle.mx_store.specs.declared.change.Change.TheVariants.{Create, Delete};
@@ -7,14 +7,17 @@ ghost use Rattle.mx_mirror.specs.Instants as instants;
 ghost use Rattle.mx_mirror.specs.Mirror.{IsPlain};
 ghost use Rattle.mx_mirror.specs.State as spec;
 ghost use Rattle.mx_mirror.specs.State.{Declines, IsKept, StaysValid, Stands, Makes, MayMake, IsDone, Changes, CountsFaults, Settles, ReadsDoubt, standing, IsLastAfter};
+ghost use Rattle.mx_mirror.specs.Turns.{ChangesInTurn, MayMakeInTurn};
 
 use crate::asking::{Outcome, declined, is_done, last_after, make, path_of};
 use crate::error::ChangeError;
 use crate::mirror::Mirror;
+use crate::turns::change_all;
 use mx_base::{Instant, Path};
 use mx_lists::Bytes;
 use mx_store::{Change, Named, Store, StoreError};
 use std::alloc::Global;
+use std::collections::VecDeque;
 use std::marker::{Model, PhantomData};
 
 /// A store with its mirror, changed one object at a time.
@@ -153,6 +156,18 @@ impl<S: Store, N: Named> Mirrored<S, N> {
                 Err(ChangeError::NoMemory)
             }
         }
+    }
+
+    /// Makes the changes one after the other, up to the first one that is not made.
+    ///
+    /// The caller knows that each may be made on what the ones before it leave.
+    pub fn change_in_turn(&mut self, alloc: Global, changes: Vec<Change>) -> Result<(), ChangeError>
+        requires plain { All IsPlain changes.items }
+        requires may { MayMakeInTurn (S.journal self.old.store) self.old.doubt self.old.last changes.items }
+        ensures turns { ChangesInTurn changes.items (standing S.journal self.old) (standing S.journal self.new) result }
+        ensures faults { CountsFaults (S.faults self.old.store) (S.faults self.new.store) result }
+    {
+        change_all(alloc, self, VecDeque::from(changes))
     }
 
     /// Settles the doubt by one `get` of its path: the change counts as applied exactly where the object stands as it leaves it. Where

@@ -4,3 +4,4 @@ pub mod Reading
 pub mod Folder
 pub mod Steps
 pub mod Begin
+pub mod Pending

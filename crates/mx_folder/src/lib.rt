@@ -2,7 +2,8 @@
 //!
 //! `specs/Folder.antt` says when a folder opens (`IsOpenable`: no path shows damage) and when it is a valid table
 //! (`IsValidTable`). `specs/Reading.antt` has the kind of each object, `specs/Actions.antt` the commits that count. The laws
-//! say which changes of one object keep a table (`specs/Steps.antt`).
+//! say which changes of one object keep a table (`specs/Steps.antt`). `specs/Pending.antt` has what a commit that was not
+//! completed leaves (`Pending`), and the changes that take it away (`recovery_changes`).
 //!
 //! | call | contract |
 //! |---|---|
@@ -13,8 +14,10 @@
 #![tactic(auto)]
 
 mod laws;
+mod pending;
 
 pub use laws::{
     a_completion_keeps_a_table, a_new_table_is_valid, a_pending_commit_is_loose,
     loose_changes_keep_a_table, what_is_outside_is_loose,
 };
+pub use pending::Pending;

@@ -172,7 +172,7 @@ config_up h o same current = record { stands = is_some_same _ _ (sym same) curre
 
 opens_up : (h o : Objects) (names others paths : List (List ℕ)) (r : Result Folder ReadError) → ((q : List ℕ) → IsHidden q → at_path h q ≡ at_path o q) → ((q : List ℕ) → is_hidden q ≡ false → at_path h q ≡ None) → paths ≡ finmap.keys o →
     names ≡ filter is_hidden paths → others ≡ filter (λ path. not (is_hidden path)) paths → OpensHeld h names others r → Opens o r
-opens_up h o names others paths (Ok folder) inner outer keys hidden rest (all, current, said, same_names, same_others) = (
+opens_up h o names others paths (Ok folder) inner outer keys hidden rest (all, current, said, same_names, same_others, pending) = (
   record {
     config = is_some_same _ _ (sym (name_same h o inner outer Config)) current.stands;
     sound = λ q. sound_up h o inner outer q (all q);
@@ -181,6 +181,7 @@ opens_up h o names others paths (Ok folder) inner outer keys hidden rest (all, c
     config = sym (name_same h o inner outer Config) ∙ said;
     names = same_names ∙ hidden ∙ ap (λ (ps : List (List ℕ)). filter is_hidden ps) keys;
     others = same_others ∙ rest ∙ ap (λ (ps : List (List ℕ)). filter (λ path. not (is_hidden path)) ps) keys;
+    pending = pending o (record { all = hidden ∙ ap (λ (ps : List (List ℕ)). filter is_hidden ps) keys; same = name_same h o inner outer });
   },
 )
 opens_up h o names others paths (Err NotATable) inner outer keys hidden rest absent = sym (name_same h o inner outer Config) ∙ absent

@@ -7,3 +7,4 @@ pub mod LeastLemmas
 pub mod FaultLemmas
 pub mod OpeningLemmas
 pub mod HeldLemmas
+pub mod LeavingLemmas

@@ -1,3 +1,4 @@
 pub mod Init
 pub mod Deciding
 pub mod Opening
+pub mod Leaving

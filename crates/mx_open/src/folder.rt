@@ -11,7 +11,9 @@ use crate::error::ReadError;
 use crate::faults::least_damaged;
 use crate::held::Held;
 use crate::new_table::indexing;
+use crate::pending::{copied, pending_commits};
 use mx_base::{ObjectName, Part, Path};
+use mx_folder::Pending;
 use mx_lists::{Bytes, Listed};
 use mx_meta::{BaseMeta, MetaError};
 use mx_props::{Props, PropsError};
@@ -26,6 +28,8 @@ pub struct Folder {
     pub names: Listed<Path>,
     /// The other paths, in byte order.
     pub others: Listed<Path>,
+    /// The commits that are begun and not completed, by rising instant.
+    pub pending: Listed<Pending>,
 }
 
 /// What the config says, where it reads.
@@ -115,16 +119,6 @@ fn read_bases(alloc: Global, bytes: &[u8]) -> Result<Bases, AllocError>
     }
 }
 
-fn copied(alloc: Global, paths: &[Path]) -> Result<Listed<Path>, AllocError>
-    ensures { IfOk result (λ copies. copies ≡ paths.now) }
-{
-    let mut copies = Listed::new(alloc);
-    for path in paths {
-        copies.push(path.clone()?)?;
-    }
-    Ok(copies)
-}
-
 /// Reads the config, then each object below `.hoodie/`, and looks for damage. It changes nothing.
 pub fn read_folder<S: Store>(alloc: Global, store: &mut S) -> Result<Folder, ReadError>
     ensures opens { IfSome (S.journal store.old) (λ journal. Opens (objects_of journal) result) }
@@ -211,11 +205,13 @@ fn open_held(
     if let Some(path) = least_damaged(alloc, held, &context)? {
         return Err(ReadError::Damaged { path });
     }
+    let pending = pending_commits(alloc, held, names.as_slice())?;
     match config {
         Some(config) => Ok(Folder {
             config,
             names,
             others,
+            pending,
         }),
         None => unreachable!(),
     }

@@ -6,7 +6,8 @@
 //! | `read_folder` | what a folder holds, exactly where it opens; else the first cause: no config, another version, the least path that shows damage (`specs/Opening.antt`) |
 //!
 //! `mx_folder` says when a folder opens. The objects below `.hoodie/` are read once each and held until the damage is
-//! looked for: first each object by its name (`src/objects.rt`), then what is needed and missing (`src/faults.rt`).
+//! looked for: first each object by its name (`src/objects.rt`), then what is needed and missing (`src/faults.rt`). A folder
+//! that opens tells its pending commits as well, by the names and the lists of files that are held (`src/pending.rt`).
 #![tactic(auto)]
 
 mod context;
@@ -17,9 +18,11 @@ mod held;
 mod kinds;
 mod new_table;
 mod objects;
+mod pending;
 #[cfg(test)]
 mod tests;
 
 pub use error::{InitError, ReadError};
 pub use folder::{Folder, read_folder};
+pub use mx_folder::Pending;
 pub use new_table::init;

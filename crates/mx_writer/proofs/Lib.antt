@@ -1,0 +1,3 @@
+pub mod EarlyLemmas
+pub mod CommitLemmas
+pub mod PlanLemmas

@@ -8,3 +8,7 @@ pub mod OrderLemmas
 pub mod DataLemmas
 pub mod TrailerLemmas
 pub mod FileLemmas
+pub mod KeyLemmas
+pub mod HeldLemmas
+pub mod SearchLemmas
+pub mod LoadLemmas

@@ -27,14 +27,20 @@ mod blocks;
 mod dividing;
 mod error;
 mod fields;
+mod footer;
 mod listing;
+mod loading;
 mod reading;
+mod searching;
 mod trailer;
 mod writing;
 
 pub use dividing::one_division;
 pub use error::HFileError;
+pub use footer::index_place;
+pub use loading::Index;
 pub use reading::{MOST_BYTES, one_list, read};
+pub use searching::search;
 pub use writing::{size, write};
 
 #[cfg(test)]

@@ -1,0 +1,11 @@
+use Rattle.std.proofs.Common.{◌<◌, length, arith, ap, sym, rules}
+use Rattle.mx_hfile.proofs.DividingLemmas.{length-map}
+use Rattle.mx_hfile.specs.Held.{held_place}
+use Rattle.mx_hfile.proofs.HeldLemmas.{held_at}
+use Rattle.mx_hfile.proofs.loading.Index.place.Goals as goal
+
+pub returns : goal.returns
+returns c =
+    let held = c.self.inside.blocks.items in
+    let there : c.args.block < length held = omega (arith, c.requires, ap length c.self.view_is, length-map held_place held) in
+    rw (sym c.self.view_is) (held_at held c.args.block c.index-held.result.now c.index-held.result.now c.self.invariant.follow there c.index-held.ensures)

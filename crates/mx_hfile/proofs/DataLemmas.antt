@@ -26,12 +26,12 @@ pub values_fit : (es : List Entry) → length (body es) < 2 ^ 32 → AllByRecurs
 values_fit [] lt = tt
 values_fit (e ∷ es) lt = (omega (arith, lt, body-first e es, entry-length e), values_fit es (omega (arith, lt, body-first e es)))
 
-both_true : (a b : Bool) → a ≡ true → b ≡ true → (a && b) ≡ true
+pub both_true : (a b : Bool) → a ≡ true → b ≡ true → (a && b) ≡ true
 both_true true true p q = refl
 both_true false b p q = absurd cc
 both_true true false p q = absurd cc
 
-true_both : (a b : Bool) → (a && b) ≡ true → (a ≡ true) × (b ≡ true)
+pub true_both : (a b : Bool) → (a && b) ≡ true → (a ≡ true) × (b ≡ true)
 true_both true true e = (refl, refl)
 true_both true false e = absurd cc
 true_both false b e = absurd cc

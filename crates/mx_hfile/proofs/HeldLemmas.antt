@@ -40,6 +40,18 @@ held_at held i h d f lt is =
     let len : h.len ≡ (get_or (map held_place held) i no_place).len = ap (λ (x : Held). x.len) is ∙ sym (ap (λ (p : Place). p.len) (get_or-map held_place held i d no_place lt)) in
     ap (λ (n : ℕ). (n, h.len)) at ∙ ap (λ (n : ℕ). (total (take i (map held_place held)), n)) len
 
+within-all : (ps : List Place) (i : ℕ) → i < length ps → total (take i ps) + (get_or ps i no_place).len ≤ total ps
+within-all [] i lt = absurd (omega arith)
+within-all (p ∷ ps) zero lt = omega (arith, sum_by-cons (λ (q : Place). q.len) p ps)
+within-all (p ∷ ps) (suc i) lt =
+    omega (arith, within-all ps i (omega arith), sum_by-cons (λ (q : Place). q.len) p ps, sum_by-cons (λ (q : Place). q.len) p (take i ps))
+
+pub held_within : (held : List Held) (i : ℕ) (h d : Held) → Follow 0 held → i < length held → h ≡ get_or held i d → h.at + h.len ≤ total (map held_place held)
+held_within held i h d f lt is =
+    let at = held_at held i h d f lt is in
+    let within = within-all (map held_place held) i (omega (arith, lt, length-map held_place held)) in
+    omega (arith, within, ap (λ (x : ℕ × ℕ). x.0) at, ap (λ (x : ℕ × ℕ). x.1) at)
+
 key_at : (held : List Held) (i : ℕ) (d : Held) → i < length held → first_key_at (map held_place held) i ≡ (get_or held i d).key
 key_at held i d lt = ap (λ (p : Place). p.key) (get_or-map held_place held i d no_place lt)
 

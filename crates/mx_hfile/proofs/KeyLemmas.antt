@@ -11,7 +11,8 @@ use Rattle.std.proofs.lemmas.List.{take_all}
 use Rattle.mx_hfile.specs.Encoding.{rises, Place}
 use Rattle.mx_hfile.specs.Ranges.{first_key_at, KeysRise, IsBlockFor, AreAllAbove, CanHold}
 use Rattle.mx_hfile.specs.Held.{is_upto, is_through, IsCountOf}
-use Rattle.mx_hfile.proofs.OrderLemmas.{rises-trans, rises-some}
+use Rattle.mx_hfile.proofs.OrderLemmas.{is_less, rises-trans, rises-some}
+use Rattle.mx_hfile.proofs.DataLemmas.{true_both}
 
 pub not_true : (b : Bool) → not b ≡ true → b ≡ false
 not_true true e = absurd cc
@@ -35,17 +36,7 @@ second_false : (a b : Bool) → a ≡ true → (a && b) ≡ false → b ≡ fals
 second_false true b h e = e
 second_false false b h e = absurd cc
 
-true_both : (a b : Bool) → (a && b) ≡ true → (a ≡ true) × (b ≡ true)
-true_both true true e = (refl, refl)
-true_both true false e = absurd cc
-true_both false b e = absurd cc
-
 -- ---- the order
-
-is_less : (o : Ordering) → is_lt o ≡ true → o ≡ Less
-is_less Less e = refl
-is_less Equal e = absurd cc
-is_less Greater e = absurd cc
 
 below_by : (o : Ordering) (a b c : List ℕ) → slice_cmp nat_cmp b a ≡ o → is_lt o ≡ false → slice_cmp nat_cmp b c ≡ Less → slice_cmp nat_cmp a c ≡ Less
 below_by Less a b c e f lt = absurd cc

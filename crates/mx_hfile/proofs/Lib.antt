@@ -12,3 +12,6 @@ pub mod KeyLemmas
 pub mod HeldLemmas
 pub mod SearchLemmas
 pub mod LoadLemmas
+pub mod FooterLemmas
+pub mod ValueLemmas
+pub mod RangeLemmas

@@ -38,10 +38,11 @@ loaded footer trailer bytes ps f is g = rw (f, eq-eqb (length bytes) footer.inde
 pub good-total : (end : ℕ) (ps : List Place) → AreGoodPlaces 0 end [] ps → total ps ≡ end
 good-total end ps good = omega (arith, covers-total (end - 0) ps (covers 0 end [] ps good))
 
-pub is_index : (end blocks : ℕ) (ps : List Place) (held : List Held) → AreGoodPlaces 0 end [] ps → length ps ≡ blocks → blocks < 2 ^ 32 → map held_place held ≡ ps → Follow 0 held → IsIndex held
-is_index end blocks ps held good count lt is follow =
+pub is_index : (end blocks : ℕ) (ps : List Place) (held : List Held) → AreGoodPlaces 0 end [] ps → end + 80 ≤ 268_435_456 → length ps ≡ blocks → blocks < 2 ^ 32 → map held_place held ≡ ps → Follow 0 held → IsIndex held
+is_index end blocks ps held good room count lt is follow =
     record {
       follow = follow;
       keys = subst (KeysRise []) (sym is) (good_keys 0 end [] ps good);
       few = omega (arith, count, lt, ap length is, length-map held_place held);
+      room = omega (arith, room, good-total end ps good, ap total is);
     }

@@ -8,10 +8,10 @@ use Rattle.mx_hfile.specs.Decoding.{expected_in, number_in, offset_in, Trailer, 
 use Rattle.mx_hfile.proofs.FieldLemmas.{IsBytes, Took-then, bind_ok, ok_is, passing_again, passing_takes, wide32, wide64, number_codec, expected_takes, expected_again}
 use Rattle.mx_hfile.proofs.DividingLemmas.{trailer-length}
 
-abbrev zeros : List ℕ
+abbrev pub zeros : List ℕ
 zeros = replicate 16 0
 
-trailer-parts : (o m n k : ℕ) (rest : List ℕ)
+pub trailer-parts : (o m n k : ℕ) (rest : List ℕ)
     → trailer o m n k ++ rest ≡ trailer_magic ++ (number w32 1 ++ (number w32 0 ++ (number w64 o ++ (number w64 m ++ (number w64 n ++ (number w32 k ++ (number w32 0 ++ (zeros ++ rest))))))))
 trailer-parts o m n k rest = simp append_assoc
 

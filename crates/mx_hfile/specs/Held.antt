@@ -1,5 +1,5 @@
 -- What an index holds of the blocks.
-use Rattle.std.specs.Prelude.{◌≡◌, ℕ, ◌+◌, ◌^◌, ◌<◌, ◌≤◌, Bool, true, false, not, ◌||◌, nat_eq, List, [], ◌∷◌, length, map}
+use Rattle.std.specs.Prelude.{◌≡◌, ℕ, ◌+◌, ◌^◌, ◌<◌, ◌≤◌, Bool, true, false, not, ◌||◌, nat_eq, List, [], ◌∷◌, length, map, sum_by}
 use Rattle.mx_hfile.specs.declared.loading.Held.{Held}
 use Rattle.std.specs.List.{starts_with}
 use Rattle.mx_hfile.specs.Encoding.{Place, rises}
@@ -14,11 +14,13 @@ abbrev pub Follow : ℕ → List Held → Type 0
 Follow at [] = Unit {0}
 Follow at (h ∷ held) = (h.at ≡ at) × Follow (at + h.len) held
 
--- blocks follow each other from the start of the file on, their first keys rise, and a number of four bytes counts them
+-- blocks follow each other from the start of the file on and leave room for the index block and the trailer, their
+-- first keys rise, and a number of four bytes counts them
 pub record IsIndex (held : List Held) : Type 0 where
   pub follow : Follow 0 held
   pub keys : KeysRise [] (map held_place held)
   pub few : length held < 2 ^ 32
+  pub room : sum_by (λ p. p.len) (map held_place held) + 80 ≤ 268_435_456
 
 -- a first key is not above a key
 abbrev pub is_upto : List ℕ → List ℕ → Bool

@@ -137,6 +137,10 @@ trailer_bytes bytes = drop (length bytes - 64) bytes
 abbrev pub index_place : List Entry → ℕ × ℕ
 index_place entries = (length (blocks_bytes (blocks_of entries)), length (index (map place_of (blocks_of entries))))
 
+-- what the trailer of the file of these entries says
+abbrev pub footer_of_file : List Entry → Footer
+footer_of_file entries = record { offset = (index_place entries).0; index_len = (index_place entries).1; entry_count = length entries; block_count = length (blocks_of entries) }
+
 -- what the index says of the blocks of these entries
 abbrev pub places_of : List Entry → List Place
 places_of entries = map place_of (blocks_of entries)

@@ -1,4 +1,4 @@
-ghost use Rattle.std.specs.Prelude.{◌≡◌, ◌≤◌, ◌<◌, ◌^◌, ℕ, [], length, map, sum_by, None, IfOk, IfSome, ◌↔◌};
+ghost use Rattle.std.specs.Prelude.{◌≡◌, ◌≤◌, ◌<◌, ◌^◌, ◌+◌, ℕ, [], length, map, sum_by, None, IfOk, IfSome, ◌↔◌};
 ghost use Rattle.mx_hfile.specs.Seen.{seen};
 ghost use Rattle.mx_hfile.specs.Ranges.{Reads, loaded_in, place_at, KeysRise, IsBlockFor, AreAllAbove, CanHold};
 ghost use Rattle.mx_hfile.specs.Held.{held_place, Follow, is_upto, is_through, IsCountOf};
@@ -75,7 +75,8 @@ impl Index {
     /// Where the block begins in the file, and how many bytes it has.
     pub fn place(&self, block: u32) -> (u64, u32)
         requires { block < length self.now }
-        ensures { result ≡ place_at self.now block }
+        ensures place { result ≡ place_at self.now block }
+        ensures within { result.0 + result.1 + 80 ≤ 268_435_456 }
     {
         let held = &self.blocks[block as usize];
         (held.at, held.len)

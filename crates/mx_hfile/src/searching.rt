@@ -50,7 +50,8 @@ fn value_in(len: usize, key: &[u8], body: &[u8]) -> Result<Option<(usize, usize)
         }
         let (next, value, behind) = entry_of(last, None, rest)?;
         let end = len - behind.len();
-        found = earlier(found, next == key, (end - value.len(), end));
+        let start = end - value.len();
+        found = earlier(found, next == key, (start, end));
         last = next;
         rest = behind;
     }

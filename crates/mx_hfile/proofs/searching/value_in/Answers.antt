@@ -33,8 +33,8 @@ overflow_sub-end c =
     let left = entry_left _ _ _ c.in_ok-next.ensures.read in
     omega (arith, left, l.invariant.within, c.requires)
 
-pub overflow_sub-end-in-loop-key : goal.overflow_sub-end-in-loop-key
-overflow_sub-end-in-loop-key c =
+pub overflow_sub-start : goal.overflow_sub-start
+overflow_sub-start c =
     let l = c.loop-key in
     let left = entry_left _ _ _ c.in_ok-next.ensures.read in
     omega (arith, left, l.invariant.within, c.requires)

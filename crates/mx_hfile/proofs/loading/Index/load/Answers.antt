@@ -35,7 +35,7 @@ invariant_of-result c =
     let ps = map seen c.in-Ok-index_of.listings.items in
     let fits : IsBytes c.args.index.now = λ i. omega (arith, c.type_inv.index i) in
     let good = index_takes footer.block_count footer.offset c.args.index.now ps fits c.in-Ok-index_of.ensures in
-    is_index footer.offset footer.block_count ps c.in_ok-held_of.field-0.items good.1.1 good.1.0 c.in-Ok.ensures.count (c.in_ok-held_of.ensures.places ∙ ap (map seen) c.deref.ensures.value) c.in_ok-held_of.ensures.follow
+    is_index footer.offset footer.block_count ps c.in_ok-held_of.field-0.items good.1.1 (omega (arith, c.in-Ok.ensures.room)) good.1.0 c.in-Ok.ensures.count (c.in_ok-held_of.ensures.places ∙ ap (map seen) c.deref.ensures.value) c.in_ok-held_of.ensures.follow
 
 pub returns : goal.returns
 returns c =

@@ -46,4 +46,6 @@ pub use searching::search;
 pub use writing::{size, write};
 
 #[cfg(test)]
+mod range_tests;
+#[cfg(test)]
 mod tests;

@@ -1,19 +1,21 @@
 -- The parts of a file, each from its own bytes, are read as they were written.
-use Rattle.std.proofs.Common.{◌≡◌, ℕ, ◌+◌, ◌-◌, ◌^◌, ◌<◌, ◌≤◌, Bool, true, false, cond, eqb, ltb, ◌&&◌, List, [], ◌∷◌, ◌++◌, length, take, drop, map, Result, Ok, append_assoc, append-nil, length-append, refl, sym, ap, subst, ◌∙◌, arith}
+use Rattle.std.proofs.Common.{◌≡◌, ℕ, ◌+◌, ◌-◌, ◌^◌, ◌<◌, ◌≤◌, true, eqb, ltb, ◌&&◌, List, [], ◌++◌, length, take, drop, Result, Ok, append_assoc, append-nil, length-append, refl, sym, ap, subst, ◌∙◌, arith}
 use Rattle.std.specs.Int.{w32, w64}
 use Rattle.std.specs.List.{AllByRecursion}
 use Rattle.std.proofs.lemmas.Bool.{lt-ltb, eq-eqb}
+use Rattle.std.proofs.lemmas.List.{length-take, length-drop}
 use Rattle.std.proofs.Math.Seq.{drop-append_seam, take-append_seam}
 use Rattle.mx_base.specs.declared.entry.Entry.{Entry}
 use Rattle.mx_hfile.specs.declared.footer.Footer.{Footer}
-use Rattle.mx_hfile.specs.Encoding.{RiseFrom, HasKey, number, trailer_magic, blocks_bytes, Place, place_of, index, trailer, blocks_of, encoding}
-use Rattle.mx_hfile.specs.Decoding.{◌>>=◌, expected_in, number_in, index_in}
-use Rattle.mx_hfile.specs.Ranges.{HaveFile, trailer_bytes, bytes_at, index_place, footer_of_file, places_of, offset_alone_in, index_len_in, footer_in, loaded_in}
-use Rattle.mx_hfile.proofs.FieldLemmas.{passing_again, wide32, wide64, number_codec, expected_again}
-use Rattle.mx_hfile.proofs.TrailerLemmas.{zeros, trailer-parts}
+use Rattle.mx_hfile.specs.Encoding.{RiseFrom, HasKey, number, trailer_magic, blocks_bytes, place_of, index, trailer, blocks_of, encoding}
+use Rattle.mx_hfile.specs.Decoding.{◌>>=◌, expected_in, number_in, placed, index_in, Trailer}
+use Rattle.mx_hfile.specs.Ranges.{offset_alone_in, index_len_in, footer_in, loaded_in}
+use Rattle.mx_hfile.specs.Found.{HaveFile, HasTrailer, footer_from, index_bytes, trailer_bytes, bytes_at, index_place, footer_of_file, places_of}
+use Rattle.mx_hfile.proofs.FieldLemmas.{IsBytes-drop, passing_again, wide32, wide64, number_codec, expected_again}
+use Rattle.mx_hfile.proofs.TrailerLemmas.{zeros, trailer-parts, trailer_takes}
 use Rattle.mx_hfile.proofs.DividingLemmas.{trailer-length, length-map, encoding-length, few_blocks}
 use Rattle.mx_hfile.proofs.DivisionLemmas.{all, blocks_of-divides}
-use Rattle.mx_hfile.proofs.PlaceLemmas.{AreGoodPlaces, index-length, index_again}
+use Rattle.mx_hfile.proofs.PlaceLemmas.{AreGoodPlaces, index_again}
 use Rattle.mx_hfile.proofs.FileLemmas.{same_file, places_good, few_entries, index_some}
 use Rattle.mx_hfile.proofs.LoadLemmas.{loaded}
 use Rattle.mx_hfile.proofs.DataLemmas.{both_true}
@@ -47,6 +49,28 @@ footer_again o m n k some le ln lk =
     rw len
     (ap footer_rest (sym (append-nil (trailer o m n k)) ∙ trailer-parts o m n k [])
     ∙ rw (expected_again trailer_magic (number w32 1 ++ (number w32 0 ++ (number w64 o ++ d))), expected_again (number w32 1) (number w32 0 ++ (number w64 o ++ d)), expected_again (number w32 0) (number w64 o ++ d), offset, size, c64.again n f ln, c32.again k g lk, expected_again (number w32 0) h, expected_again zeros []) refl)
+
+-- ---- bytes whose trailer reads
+
+pub footer_same : (bytes : List ℕ) (t : Trailer) → HasTrailer bytes t → footer_in (trailer_bytes bytes) ≡ Ok (footer_from (length bytes) t)
+footer_same bytes t has =
+    let len = length bytes in
+    let some = has.some in
+    let most = has.most in
+    let tr = trailer_takes len (trailer_bytes bytes) t (IsBytes-drop (len - 64) bytes has.are) (omega (arith, length-drop (len - 64) bytes, some)) has.reads in
+    let room = tr.room in
+    ap footer_in tr.spelled ∙ footer_again t.offset (len - 64 - t.offset) t.entry_count t.block_count (omega (arith, room)) (omega (arith, room, some, most)) tr.entries tr.blocks
+
+pub loaded_same : (bytes : List ℕ) (t : Trailer) → HasTrailer bytes t → loaded_in (trailer_bytes bytes) (index_bytes t bytes) ≡ placed (length bytes - 64) (index_in t.block_count t.offset (index_bytes t bytes))
+unfolding loaded_in
+loaded_same bytes t has =
+    let len = length bytes in
+    let some = has.some in
+    let tr = trailer_takes len (trailer_bytes bytes) t (IsBytes-drop (len - 64) bytes has.are) (omega (arith, length-drop (len - 64) bytes, some)) has.reads in
+    let room = tr.room in
+    let is : length (index_bytes t bytes) ≡ len - 64 - t.offset = omega (arith, length-take (len - 64 - t.offset) (drop t.offset bytes), length-drop t.offset bytes, room) in
+    let end : t.offset + length (index_bytes t bytes) ≡ len - 64 = omega (arith, is, room, some) in
+    rw (footer_same bytes t has, eq-eqb (length (index_bytes t bytes)) (len - 64 - t.offset) is) (ap (λ (n : ℕ). placed n (index_in t.block_count t.offset (index_bytes t bytes))) end)
 
 -- ---- the parts of a file
 

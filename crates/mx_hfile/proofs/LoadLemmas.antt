@@ -1,14 +1,14 @@
 -- The trailer and the index block are read one after the other.
-use Rattle.std.proofs.Common.{◌≡◌, ℕ, ◌+◌, ◌-◌, ◌^◌, ◌<◌, ◌≤◌, Bool, true, false, eqb, List, [], length, map, Result, Ok, Err, refl, sym, ap, subst, ◌∙◌, arith}
+use Rattle.std.proofs.Common.{◌≡◌, ℕ, ◌+◌, ◌-◌, ◌^◌, ◌<◌, ◌≤◌, false, eqb, List, [], length, map, Ok, Err, refl, sym, ap, subst, arith}
 use Rattle.std.proofs.lemmas.Bool.{eq-eqb}
 use Rattle.mx_hfile.specs.declared.error.Fault.{Fault}
 use Rattle.mx_hfile.specs.declared.error.Fault.TheVariants as faults
 use Rattle.mx_hfile.specs.declared.footer.Footer.{Footer}
 use Rattle.mx_hfile.specs.declared.loading.Held.{Held}
 use Rattle.mx_hfile.specs.Encoding.{Place}
-use Rattle.mx_hfile.specs.Decoding.{◌>>=◌, Fails, placed, index_in}
+use Rattle.mx_hfile.specs.Decoding.{Fails, index_in}
 use Rattle.mx_hfile.specs.Seen.{placed_error}
-use Rattle.mx_hfile.specs.Ranges.{Reads, footer_in, index_alone_in, loaded_in, KeysRise}
+use Rattle.mx_hfile.specs.Ranges.{Reads, footer_in, loaded_in, KeysRise}
 use Rattle.mx_hfile.specs.Held.{held_place, Follow, IsIndex}
 use Rattle.mx_hfile.proofs.PlaceLemmas.{AreGoodPlaces, covers}
 use Rattle.mx_hfile.proofs.DividingLemmas.{length-map}

@@ -1,6 +1,6 @@
 -- What is found by ranges is what the entries have.
-use Rattle.std.proofs.Common.{◌≡◌, ℕ, zero, suc, ◌+◌, ◌-◌, ◌^◌, ◌<◌, ◌≤◌, Bool, true, false, List, [], ◌∷◌, ◌++◌, length, take, drop, get_or, map, nat_eq, Option, None, Ok, append_assoc, length-append, refl, sym, ap, subst, ◌∙◌, arith}
-use Rattle.std.specs.Prelude.{sum_by, Contains}
+use Rattle.std.proofs.Common.{◌≡◌, ℕ, zero, suc, ◌+◌, ◌^◌, ◌<◌, ◌≤◌, true, false, List, [], ◌∷◌, ◌++◌, length, take, drop, get_or, map, nat_eq, Option, None, Ok, append_assoc, length-append, refl, sym, ap, subst, ◌∙◌, arith}
+use Rattle.std.specs.Prelude.{Contains}
 use Rattle.std.specs.List.{AllByRecursion, starts_with}
 use Rattle.std.proofs.lemmas.List.{take-append-drop, length-take}
 use Rattle.std.proofs.lemmas.List.Concat.{flat_map-cons}
@@ -9,7 +9,8 @@ use Rattle.std.proofs.Math.Seq.{drop-append_seam, take-append_seam}
 use Rattle.mx_base.specs.declared.entry.Entry.{Entry}
 use Rattle.mx_hfile.specs.Encoding.{rises, RiseFrom, HasKey, block, blocks_bytes, Place, first_key, place_of, index, trailer, blocks_of, encoding}
 use Rattle.mx_hfile.specs.Division.{IsBlock, AreBlocks}
-use Rattle.mx_hfile.specs.Ranges.{no_place, first_key_at, place_at, bytes_at, HaveFile, index_place, places_of, value_of, found_in, block_alone_in, IsBlockFor, AreAllAbove, CanHold}
+use Rattle.mx_hfile.specs.Ranges.{no_place, first_key_at, place_at, IsBlockFor, AreAllAbove, CanHold}
+use Rattle.mx_hfile.specs.Found.{bytes_at, HaveFile, index_place, places_of, value_of, found_in}
 use Rattle.mx_hfile.proofs.Loops.{drop_next}
 use Rattle.mx_hfile.proofs.OrderLemmas.{rises-trans, rises-some, rise-behind, rise-split}
 use Rattle.mx_hfile.proofs.DividingLemmas.{length-map, keys_split, encoding-length}

@@ -1,8 +1,7 @@
 -- A block is walked through once, and what is found so far stands in front of what is still found.
-use Rattle.std.proofs.Common.{◌≡◌, ℕ, zero, suc, ◌+◌, ◌-◌, ◌<◌, ◌≤◌, Bool, true, false, cond, eqb, ltb, List, [], ◌∷◌, ◌++◌, length, Option, Some, None, Result, Ok, Err, refl, sym, ap, subst, ◌∙◌, length-append, arith}
+use Rattle.std.proofs.Common.{◌≡◌, ℕ, ◌+◌, ◌-◌, ◌<◌, ◌≤◌, Bool, true, false, cond, eqb, List, [], ◌∷◌, ◌++◌, length, Option, Some, None, Result, Ok, Err, refl, sym, ap, ◌∙◌, length-append, arith}
 use Rattle.std.specs.Int.{w32}
 use Rattle.std.proofs.lemmas.Bool.{le-ltb}
-use Rattle.std.proofs.lemmas.Bool.Decides.{nat_tests}
 use Rattle.mx_base.specs.declared.entry.Entry.{Entry}
 use Rattle.mx_hfile.specs.declared.error.Fault.{Fault}
 use Rattle.mx_hfile.specs.declared.error.Fault.TheVariants as faults
@@ -11,7 +10,7 @@ use Rattle.mx_hfile.specs.Decoding.{◌>>=◌, Fails, is_same, is_key, entry_in,
 use Rattle.mx_hfile.specs.Seen.{behind, earlier}
 use Rattle.mx_hfile.specs.Ranges.{value_place, search_body, search_in, block_alone_in}
 use Rattle.mx_hfile.proofs.FieldLemmas.{IsBytes, wide32}
-use Rattle.mx_hfile.proofs.Loops.{more_entries, bad_entry, late_entry, no_entry, behind_fails, behind_bad}
+use Rattle.mx_hfile.proofs.Loops.{more_entries, bad_entry, late_entry, no_entry, behind_bad}
 use Rattle.mx_hfile.proofs.DataLemmas.{body_takes, magic-length}
 
 -- what was found, or is found among entries of which the first begins at a place

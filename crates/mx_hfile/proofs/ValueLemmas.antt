@@ -1,5 +1,5 @@
 -- The value of a key is found in its block, and in no other.
-use Rattle.std.proofs.Common.{◌≡◌, ℕ, zero, suc, ◌+◌, ◌-◌, ◌^◌, ◌<◌, ◌≤◌, Bool, true, false, cond, eqb, List, [], ◌∷◌, ◌++◌, length, take, drop, get_or, map, Option, Some, None, Result, Ok, append_assoc, length-append, refl, sym, ap, subst, ◌∙◌, arith}
+use Rattle.std.proofs.Common.{◌≡◌, ℕ, ◌+◌, ◌-◌, ◌≤◌, Bool, true, false, cond, eqb, List, [], ◌∷◌, ◌++◌, length, take, drop, Option, Some, None, Ok, append_assoc, length-append, refl, sym, ap, subst, ◌∙◌, arith}
 use Rattle.std.specs.Prelude.{option_map, find}
 use Rattle.std.specs.Int.{w16, w32}
 use Rattle.std.specs.List.{AllByRecursion}
@@ -10,9 +10,10 @@ use Rattle.std.proofs.lemmas.List.Concat.{flat_map-cons}
 use Rattle.std.proofs.Math.Seq.{drop-append_seam, take-append_seam}
 use Rattle.mx_base.specs.declared.entry.Entry.{Entry}
 use Rattle.mx_hfile.specs.Encoding.{number, data_magic, rises, RiseFrom, HasKey, entry_bytes, body, block}
-use Rattle.mx_hfile.specs.Decoding.{is_same, entries_in, body_in}
+use Rattle.mx_hfile.specs.Decoding.{is_same}
 use Rattle.mx_hfile.specs.Division.{BeginInTime, IsBlock}
-use Rattle.mx_hfile.specs.Ranges.{block_alone_in, value_place, search_in, bytes_between, value_of, found_in}
+use Rattle.mx_hfile.specs.Ranges.{block_alone_in, value_place, search_in}
+use Rattle.mx_hfile.specs.Found.{bytes_between, value_of, found_in}
 use Rattle.mx_hfile.proofs.FieldLemmas.{wide16, wide32}
 use Rattle.mx_hfile.proofs.DividingLemmas.{entry-length, block-length}
 use Rattle.mx_hfile.proofs.DivisionLemmas.{body-first}

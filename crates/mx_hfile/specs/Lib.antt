@@ -4,3 +4,4 @@ pub mod Decoding
 pub mod Seen
 pub mod Ranges
 pub mod Held
+pub mod Found

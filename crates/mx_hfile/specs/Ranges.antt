@@ -1,12 +1,12 @@
 -- Reading by ranges: the trailer, the index block and one data block, each from its own bytes.
-use Rattle.std.specs.Prelude.{◌≡◌, ℕ, suc, ◌+◌, ◌-◌, ◌^◌, ◌<◌, ◌≤◌, Bool, false, ◌&&◌, List, [], ◌∷◌, length, take, drop, map, replicate, Option, Some, None, option_map, Result, Ok, Err, nat_lt, nat_eq, ◌==◌, if◌then◌else◌, IsTrue, slice_index_or, sum_by, find}
+use Rattle.std.specs.Prelude.{◌≡◌, ℕ, suc, ◌+◌, ◌-◌, ◌^◌, ◌<◌, false, ◌&&◌, List, [], ◌∷◌, length, take, replicate, Option, Some, None, Result, Ok, Err, nat_lt, nat_eq, ◌==◌, if◌then◌else◌, IsTrue, slice_index_or, sum_by}
 use Rattle.std.specs.List.{starts_with}
 use Rattle.std.specs.Int.{w32, w64}
 use Rattle.mx_base.specs.declared.entry.Entry.{Entry}
 use Rattle.mx_hfile.specs.declared.error.HFileError.{HFileError}
 use Rattle.mx_hfile.specs.declared.error.HFileError.TheVariants as errors
 use Rattle.mx_hfile.specs.declared.footer.Footer.{Footer}
-use Rattle.mx_hfile.specs.Encoding.{number, trailer_magic, rises, AreEntries, entry_bytes, blocks_bytes, Place, place_of, index, blocks_of, encoding}
+use Rattle.mx_hfile.specs.Encoding.{number, trailer_magic, rises, entry_bytes, Place}
 use Rattle.mx_hfile.specs.Decoding.{◌>>=◌, Reader, passing, number_in, is_same, expected_in, entries_in, body_in, placed, index_in}
 
 -- ---- answers
@@ -117,42 +117,3 @@ search_body key at body = entries_in (length body) (length body) [] body >>= λ 
 -- the start and the end of the value of a key in a block, whose entries begin behind 12 bytes
 unfoldable pub search_in : List ℕ → List ℕ → Result (Option (ℕ × ℕ)) ℕ
 search_in key bytes = block_alone_in bytes >>= λ entries. Ok (value_place key 12 entries)
-
--- ---- what a look-up by ranges finds
-
--- entries that have a file
-pub record HaveFile (entries : List Entry) : Type 0 where
-  pub are : AreEntries entries
-  pub len : length (encoding entries) ≤ 268_435_456
-
--- the bytes of a place, of which it has the start and the length
-abbrev pub bytes_at : ℕ × ℕ → List ℕ → List ℕ
-bytes_at place bytes = take place.1 (drop place.0 bytes)
-
--- the last 64 bytes of a file
-abbrev pub trailer_bytes : List ℕ → List ℕ
-trailer_bytes bytes = drop (length bytes - 64) bytes
-
--- the index block of the file of these entries: its start and its length
-abbrev pub index_place : List Entry → ℕ × ℕ
-index_place entries = (length (blocks_bytes (blocks_of entries)), length (index (map place_of (blocks_of entries))))
-
--- what the trailer of the file of these entries says
-abbrev pub footer_of_file : List Entry → Footer
-footer_of_file entries = record { offset = (index_place entries).0; index_len = (index_place entries).1; entry_count = length entries; block_count = length (blocks_of entries) }
-
--- what the index says of the blocks of these entries
-abbrev pub places_of : List Entry → List Place
-places_of entries = map place_of (blocks_of entries)
-
--- the bytes from a start to an end
-abbrev pub bytes_between : List ℕ → ℕ × ℕ → List ℕ
-bytes_between bytes place = take (place.1 - place.0) (drop place.0 bytes)
-
--- the value of a key among entries
-abbrev pub value_of : List ℕ → List Entry → Option (List ℕ)
-value_of key entries = option_map (λ e. e.value) (find (λ e. is_same e.key key) entries)
-
--- the value that a search finds in a block
-abbrev pub found_in : List ℕ → List ℕ → Result (Option (List ℕ)) ℕ
-found_in key block = search_in key block >>= λ found. Ok (option_map (bytes_between block) found)

@@ -1,6 +1,12 @@
-use Rattle.mx_hfile.proofs.FooterLemmas.{footer_is, loaded_is}
+use Rattle.mx_hfile.proofs.FooterLemmas.{footer_same, loaded_same, footer_is, loaded_is}
 use Rattle.mx_hfile.proofs.RangeLemmas.{found_is, none_is, prefix_is}
 use Rattle.mx_hfile.proofs.ranged.one_answer.Goals as goal
+
+pub returns-clause-same_trailer : goal.returns-clause-same_trailer
+returns-clause-same_trailer c = λ bytes t has. footer_same bytes t has
+
+pub returns-clause-same_index : goal.returns-clause-same_index
+returns-clause-same_index c = λ bytes t has. loaded_same bytes t has
 
 pub returns-clause-trailer : goal.returns-clause-trailer
 returns-clause-trailer c = λ es have. footer_is es have

@@ -1,4 +1,4 @@
-use Rattle.std.proofs.Common.{◌≡◌, ◌-◌, ◌+◌, ◌<◌, ◌≤◌, ◌∙◌, length, false, eqb, Option, ℕ, Result, arith, sym, subst, rules}
+use Rattle.std.proofs.Common.{◌≡◌, ◌-◌, ◌∙◌, length, false, eqb, Option, ℕ, Result, arith, sym, subst}
 use Rattle.mx_hfile.specs.Decoding.{Gives}
 use Rattle.mx_hfile.proofs.FieldLemmas.{IsBytes}
 use Rattle.mx_hfile.proofs.SearchLemmas.{body-left, search_whole}

@@ -1,4 +1,4 @@
-use Rattle.std.proofs.Common.{◌≡◌, ◌≤◌, ◌-◌, [], length, Ok}
+use Rattle.std.proofs.Common.{◌≡◌, ◌≤◌, ◌-◌, length, Ok}
 use Rattle.mx_hfile.specs.Decoding.{◌>>=◌, entries_in}
 use Rattle.mx_hfile.specs.Seen.{earlier}
 use Rattle.mx_hfile.specs.Ranges.{value_place, search_body}

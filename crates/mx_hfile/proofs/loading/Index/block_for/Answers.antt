@@ -1,7 +1,7 @@
-use Rattle.std.proofs.Common.{◌≡◌, ◌<◌, List, arith, ap, sym, subst, ◌∙◌, map}
+use Rattle.std.proofs.Common.{◌<◌, List, arith, ap, subst, ◌∙◌, map}
 use Rattle.mx_hfile.specs.Encoding.{Place}
 use Rattle.mx_hfile.specs.Held.{held_place, is_upto, IsCountOf}
-use Rattle.mx_hfile.proofs.KeyLemmas.{last_upto, all_above}
+use Rattle.mx_hfile.proofs.KeyLemmas.{last_upto}
 use Rattle.mx_hfile.proofs.loading.Index.block_for.Goals as goal
 
 pub returns-clause-found : goal.returns-clause-found

@@ -1,4 +1,4 @@
-use Rattle.std.proofs.Common.{◌≡◌, ◌<◌, ◌^◌, List, length, arith, ap, sym, subst, ◌∙◌, map, []}
+use Rattle.std.proofs.Common.{◌<◌, ◌^◌, List, length, arith, ap, subst, ◌∙◌, map, []}
 use Rattle.mx_hfile.specs.Encoding.{Place}
 use Rattle.mx_hfile.specs.Ranges.{KeysRise}
 use Rattle.mx_hfile.specs.Held.{held_place, is_upto, is_through, IsCountOf}

@@ -1,10 +1,8 @@
-use Rattle.std.proofs.Common.{◌≡◌, ◌-◌, ◌<◌, ◌^◌, ◌∙◌, List, ℕ, length, map, false, eqb, ap, sym, subst, arith}
+use Rattle.std.proofs.Common.{◌≡◌, ◌∙◌, length, map, false, eqb, ap, arith}
 use Rattle.std.proofs.lemmas.Bool.Decides.{nat_tests}
 use Rattle.mx_hfile.specs.Seen.{seen}
-use Rattle.mx_hfile.specs.Held.{held_place}
 use Rattle.mx_hfile.proofs.FieldLemmas.{IsBytes}
 use Rattle.mx_hfile.proofs.PlaceLemmas.{index_takes}
-use Rattle.mx_hfile.proofs.HeldLemmas.{total}
 use Rattle.mx_hfile.proofs.LoadLemmas.{bad_footer, bad_index_len, bad_index_alone, loaded, good-total, is_index}
 use Rattle.mx_hfile.proofs.loading.Index.load.Goals as goal
 

@@ -1,4 +1,4 @@
-use Rattle.std.proofs.Common.{◌<◌, length, arith, ap, sym, rules}
+use Rattle.std.proofs.Common.{◌<◌, length, arith, ap, sym}
 use Rattle.mx_hfile.proofs.DividingLemmas.{length-map}
 use Rattle.mx_hfile.specs.Held.{held_place}
 use Rattle.mx_hfile.proofs.HeldLemmas.{held_at, held_within}

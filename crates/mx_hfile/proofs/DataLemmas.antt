@@ -26,12 +26,12 @@ pub values_fit : (es : List Entry) → length (body es) < 2 ^ 32 → AllByRecurs
 values_fit [] lt = tt
 values_fit (e ∷ es) lt = (omega (arith, lt, body-first e es, entry-length e), values_fit es (omega (arith, lt, body-first e es)))
 
-both_true : (a b : Bool) → a ≡ true → b ≡ true → (a && b) ≡ true
+pub both_true : (a b : Bool) → a ≡ true → b ≡ true → (a && b) ≡ true
 both_true true true p q = refl
 both_true false b p q = absurd cc
 both_true true false p q = absurd cc
 
-true_both : (a b : Bool) → (a && b) ≡ true → (a ≡ true) × (b ≡ true)
+pub true_both : (a b : Bool) → (a && b) ≡ true → (a ≡ true) × (b ≡ true)
 true_both true true e = (refl, refl)
 true_both true false e = absurd cc
 true_both false b e = absurd cc
@@ -105,21 +105,21 @@ entries_take (suc most) len last bytes es fits le le' e =
 
 -- ---- a block
 
-magic-length : length data_magic ≡ 8
+pub magic-length : length data_magic ≡ 8
 unfolding data_magic
 magic-length = refl
 
 block-parts : (b : List Entry) → block b ≡ data_magic ++ (number w32 (length (body b)) ++ body b)
 block-parts b = simp append_assoc
 
-body_again : (b : List Entry) → body_in (block b) ≡ Ok (body b)
+pub body_again : (b : List Entry) → body_in (block b) ≡ Ok (body b)
 unfolding body_in
 body_again b =
     let len : length (block b) - 12 ≡ length (body b) = omega (arith, block-length b) in
     let first : expected_in data_magic (block b) ≡ Ok (number w32 (length (body b)) ++ body b) = ap (expected_in data_magic) (block-parts b) ∙ expected_again data_magic (number w32 (length (body b)) ++ body b) in
     rw (first, len) (expected_again (number w32 (length (body b))) (body b))
 
-body_takes : (bytes text : List ℕ) → IsBytes bytes → body_in bytes ≡ Ok text → Took bytes (data_magic ++ number w32 (length text)) text
+pub body_takes : (bytes text : List ℕ) → IsBytes bytes → body_in bytes ≡ Ok text → Took bytes (data_magic ++ number w32 (length text)) text
 unfolding body_in
 body_takes bytes text fits e =
     let a = bind_ok (expected_in data_magic bytes) (λ rest. expected_in (number w32 (length bytes - 12)) rest) text e in

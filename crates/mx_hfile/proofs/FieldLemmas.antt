@@ -247,3 +247,22 @@ entry_shorter test bytes y h =
     let made : Entry × List ℕ = (record { key = a.0.0; value = b.0.0 }, b.0.1) in
     let same : length b.0.1 ≡ length y.1 = ap (λ (z : Entry × List ℕ). length z.1) (ok_is made y b.2) in
     omega (arith, ap length kt.0, length-append a.0.0 a.0.1, ap length vt.0, length-append b.0.0 b.0.1)
+
+-- how many bytes an entry has
+pub entry_left : (test : List ℕ → Bool) (bytes : List ℕ) (y : Entry × List ℕ) → entry_in test bytes ≡ Ok y → 6 + length y.0.key + length y.0.value + length y.1 ≡ length bytes
+unfolding entry_in key_in value_in
+entry_left test bytes y h =
+    let a = bind_ok (key_in test bytes) (λ key. value_in key.1 >>= λ value. Ok (record { key = key.0; value = value.0 }, value.1)) y h in
+    let b = bind_ok (value_in a.0.1) (λ value. Ok (record { key = a.0.0; value = value.0 }, value.1)) y a.2 in
+    let k = bind_ok (passing (ltb 0) (number_in w16) bytes) (λ len. passing test (text_in len.0) len.1) a.0 a.1 in
+    let kn = number_left w16 bytes k.0 (passing_takes (ltb 0) (number_in w16) bytes k.0 k.1).0 in
+    let kt = text_left k.0.0 k.0.1 a.0 (passing_takes test (text_in k.0.0) k.0.1 a.0 k.2).0 in
+    let v = bind_ok (number_in w32 a.0.1) (λ len. text_in len.0 len.1) b.0 b.1 in
+    let vn = number_left w32 a.0.1 v.0 v.1 in
+    let vt = text_left v.0.0 v.0.1 b.0 v.2 in
+    let made : Entry × List ℕ = (record { key = a.0.0; value = b.0.0 }, b.0.1) in
+    let is = ok_is made y b.2 in
+    let rest : length b.0.1 ≡ length y.1 = ap (λ (z : Entry × List ℕ). length z.1) is in
+    let key : length a.0.0 ≡ length y.0.key = ap (λ (z : Entry × List ℕ). length z.0.key) is in
+    let value : length b.0.0 ≡ length y.0.value = ap (λ (z : Entry × List ℕ). length z.0.value) is in
+    omega (arith, ap length kt.0, length-append a.0.0 a.0.1, ap length vt.0, length-append b.0.0 b.0.1)

@@ -36,7 +36,7 @@ last_within (c ∷ cs) at end len b sum is full =
     let behind : eqb (suc (length (map place_of cs))) 0 ≡ false = grind (arith, nat_tests) in
     rw (behind, lt-ltb (at + len) end less, lt-ltb 16_395 len long) refl
 
-places_good : (at end : ℕ) (last : List ℕ) (bs : List (List Entry)) → at + length (blocks_bytes bs) ≡ end → end < 2 ^ 32 → AreBlocks bs → RiseFrom last (all bs) → AllByRecursion HasKey (all bs)
+pub places_good : (at end : ℕ) (last : List ℕ) (bs : List (List Entry)) → at + length (blocks_bytes bs) ≡ end → end < 2 ^ 32 → AreBlocks bs → RiseFrom last (all bs) → AllByRecursion HasKey (all bs)
     → AreGoodPlaces at end last (map place_of bs)
 places_good at end last [] sum lt are rise keys = omega (arith, sum)
 places_good at end last ([] ∷ bs) sum lt are rise keys = let some = are.0.some in absurd (omega (arith, some))
@@ -94,7 +94,7 @@ pub record IsFileOf (bytes : List ℕ) (es : List Entry) : Type 0 where
   pub len : length bytes ≤ 268_435_456
   pub spelled : bytes ≡ encoding es
 
-same_file : (es : List Entry) (bs : List (List Entry)) → blocks_of es ≡ bs → file (length es) bs ≡ encoding es
+pub same_file : (es : List Entry) (bs : List (List Entry)) → blocks_of es ≡ bs → file (length es) bs ≡ encoding es
 unfolding encoding
 same_file es bs e = ap (file (length es)) (sym e)
 
@@ -149,11 +149,11 @@ count_body : (es : List Entry) → length es ≤ length (body es)
 count_body [] = omega arith
 count_body (e ∷ es) = omega (arith, count_body es, body-first e es, entry-length e)
 
-few_entries : (bs : List (List Entry)) → length (all bs) ≤ length (blocks_bytes bs)
+pub few_entries : (bs : List (List Entry)) → length (all bs) ≤ length (blocks_bytes bs)
 few_entries [] = omega arith
 few_entries (b ∷ bs) = omega (arith, few_entries bs, count_body b, length-append b (all bs), block-length b, ap length (flat_map-cons block b bs), length-append (block b) (blocks_bytes bs))
 
-index_some : (ps : List Place) → 16 ≤ length (index ps)
+pub index_some : (ps : List Place) → 16 ≤ length (index ps)
 index_some ps = omega (arith, index-length ps)
 
 pub file_again : (es : List Entry) → AreEntries es → length (encoding es) ≤ 268_435_456 → file_in (encoding es) ≡ Ok es

@@ -8,3 +8,10 @@ pub mod OrderLemmas
 pub mod DataLemmas
 pub mod TrailerLemmas
 pub mod FileLemmas
+pub mod KeyLemmas
+pub mod HeldLemmas
+pub mod SearchLemmas
+pub mod LoadLemmas
+pub mod FooterLemmas
+pub mod ValueLemmas
+pub mod RangeLemmas

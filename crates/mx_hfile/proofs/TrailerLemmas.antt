@@ -8,10 +8,10 @@ use Rattle.mx_hfile.specs.Decoding.{expected_in, number_in, offset_in, Trailer, 
 use Rattle.mx_hfile.proofs.FieldLemmas.{IsBytes, Took-then, bind_ok, ok_is, passing_again, passing_takes, wide32, wide64, number_codec, expected_takes, expected_again}
 use Rattle.mx_hfile.proofs.DividingLemmas.{trailer-length}
 
-abbrev zeros : List ℕ
+abbrev pub zeros : List ℕ
 zeros = replicate 16 0
 
-trailer-parts : (o m n k : ℕ) (rest : List ℕ)
+pub trailer-parts : (o m n k : ℕ) (rest : List ℕ)
     → trailer o m n k ++ rest ≡ trailer_magic ++ (number w32 1 ++ (number w32 0 ++ (number w64 o ++ (number w64 m ++ (number w64 n ++ (number w32 k ++ (number w32 0 ++ (zeros ++ rest))))))))
 trailer-parts o m n k rest = simp append_assoc
 
@@ -33,6 +33,8 @@ trailer_again len o n k le lt ln lk =
 pub record IsTrailer (len : ℕ) (bytes : List ℕ) (t : Trailer) : Type 0 where
   pub spelled : bytes ≡ trailer t.offset (len - 64 - t.offset) t.entry_count t.block_count
   pub room : t.offset < len - 79
+  pub entries : t.entry_count < 2 ^ 64
+  pub blocks : t.block_count < 2 ^ 32
 
 no_rest : (bytes text rest : List ℕ) → bytes ≡ text ++ rest → length bytes ≡ 64 → length text ≡ 64 → rest ≡ []
 no_rest bytes text rest parts is text-is = nil_from_length rest (omega (arith, is, text-is, ap length parts, length-append text rest))
@@ -58,8 +60,10 @@ trailer_takes len bytes t fits is e =
     let p4 = passing_takes (λ x. ltb x (len - 79)) (number_in w64) x3.0 x4.0 x4.1 in
     let t4 = (c64.takes x3.0 x4.0 t3.rest_fits p4.0).0 in
     let t5 = expected_takes (number w64 m) x4.0.1 x5.0 t4.rest_fits x5.1 in
-    let t6 = (c64.takes x5.0 x6.0 t5.rest_fits x6.1).0 in
-    let t7 = (c32.takes x6.0.1 x7.0 t6.rest_fits x7.1).0 in
+    let t6' = c64.takes x5.0 x6.0 t5.rest_fits x6.1 in
+    let t6 = t6'.0 in
+    let t7' = c32.takes x6.0.1 x7.0 t6.rest_fits x7.1 in
+    let t7 = t7'.0 in
     let t8 = expected_takes (number w32 0) x7.0.1 x8.0 t7.rest_fits x8.1 in
     let t9 = expected_takes zeros x8.0 x9.0 t8.rest_fits x9.1 in
     let u2 = Took-then bytes trailer_magic x1.0 (number w32 1) x2.0 t1 t2 in
@@ -73,4 +77,4 @@ trailer_takes len bytes t fits is e =
     let nothing : x9.0 ≡ [] = no_rest bytes (trailer x4.0.0 m x6.0.0 x7.0.0) x9.0 u9.parts is (trailer-length x4.0.0 m x6.0.0 x7.0.0) in
     let whole : bytes ≡ trailer x4.0.0 m x6.0.0 x7.0.0 = u9.parts ∙ ap (λ (x : List ℕ). trailer x4.0.0 m x6.0.0 x7.0.0 ++ x) nothing ∙ append-nil (trailer x4.0.0 m x6.0.0 x7.0.0) in
     let made : Trailer = record { offset = x4.0.0; entry_count = x6.0.0; block_count = x7.0.0 } in
-    subst (λ (z : Trailer). IsTrailer len bytes z) (ok_is made t x9.2) (record { spelled = whole; room = ltb-true _ _ p4.1 })
+    subst (λ (z : Trailer). IsTrailer len bytes z) (ok_is made t x9.2) (record { spelled = whole; room = ltb-true _ _ p4.1; entries = t6'.1; blocks = t7'.1 })

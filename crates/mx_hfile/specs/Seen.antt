@@ -1,6 +1,6 @@
 -- What the code holds, as the definitions see it.
 use denote.Bor.{Bor}
-use Rattle.std.specs.Prelude.{◌≡◌, ℕ, ◌-◌, ◌≤◌, List, [], ◌∷◌, ◌++◌, Result, Ok, Err}
+use Rattle.std.specs.Prelude.{◌≡◌, ℕ, ◌-◌, ◌≤◌, List, [], ◌∷◌, ◌++◌, Option, Some, None, Result, Ok, Err}
 use Rattle.mx_base.specs.declared.entry.Entry.{Entry}
 use Rattle.mx_hfile.specs.declared.error.Fault.{Fault}
 use Rattle.mx_hfile.specs.declared.error.Fault.TheVariants as faults
@@ -10,6 +10,16 @@ use Rattle.mx_hfile.specs.declared.listing.Listing.{Listing}
 use Rattle.mx_hfile.specs.declared.trailer.Trailer.{Trailer as declared_Trailer}
 use Rattle.mx_hfile.specs.Encoding.{Place}
 use Rattle.mx_hfile.specs.Decoding.{◌>>=◌, Fails, Trailer, last_key}
+
+-- a fault of the bytes
+abbrev pub IsBad : Fault → Type 0
+IsBad faults.NoMemory = ⊥
+IsBad (faults.Bad left) = Unit {0}
+
+-- the earlier of two places
+abbrev pub earlier : Option (ℕ × ℕ) → Option (ℕ × ℕ) → Option (ℕ × ℕ)
+earlier None other = other
+earlier (Some place) other = Some place
 
 -- what the index says of a block
 abbrev pub seen : Listing → Place

@@ -1,6 +1,6 @@
 ghost use Rattle.std.specs.Prelude.{◌≡◌, ◌≤◌, ◌++◌, ◌∷◌, OnOk, IfErr, [], length, map, None, Some};
 ghost use Rattle.mx_hfile.specs.Decoding.{Decodes, IsWithin, Gives, last_key, body_in, entries_in, block_in, blocks_in};
-ghost use Rattle.mx_hfile.specs.Seen.{seen, Adds, Covers};
+ghost use Rattle.mx_hfile.specs.Seen.{seen, Adds, Covers, IsBad};
 
 use crate::error::{Fault, HFileError};
 use crate::fields::{bad, entry_of, expected};
@@ -58,9 +58,10 @@ fn push_block<'a>(
 
 /// The body of a block, which has this length.
 #[tactic(auto, unfolding(crate::specs::Decoding::body_in, crate::specs::Encoding::number, crate::specs::Encoding::data_magic))]
-fn body_of(len: u32, bytes: &[u8]) -> Result<&[u8], Fault>
+pub(crate) fn body_of(len: u32, bytes: &[u8]) -> Result<&[u8], Fault>
     requires { length bytes.now ≡ len }
-    ensures { Gives (λ body. body.now) result (body_in bytes.now) }
+    ensures read { Gives (λ body. body.now) result (body_in bytes.now) }
+    ensures memory { IfErr result IsBad }
 {
     let rest = expected(&DATA_MAGIC, bytes)?;
     expected(&len.saturating_sub(12).to_be_bytes(), rest)

@@ -1,9 +1,10 @@
-ghost use Rattle.std.specs.Prelude.{◌≡◌, length, Err};
+ghost use Rattle.std.specs.Prelude.{◌≡◌, length, Err, IfErr};
 ghost use Rattle.std.specs.Int.{w16, w32, w64};
 ghost use Rattle.std.specs.Option.{option_map};
 ghost use Rattle.mx_hfile.specs.declared.error.Fault.TheVariants as faults;
 ghost use Rattle.mx_hfile.specs.Encoding.{rises};
 ghost use Rattle.mx_hfile.specs.Decoding.{Gives, number_in, text_in, expected_in, key_in, value_in, entry_in, is_key};
+ghost use Rattle.mx_hfile.specs.Seen.{IsBad};
 
 use crate::error::Fault;
 
@@ -15,7 +16,8 @@ pub(crate) fn bad<T>(bytes: &[u8]) -> Result<T, Fault>
 
 #[tactic(auto, unfolding(crate::specs::Decoding::number_in))]
 fn u16_in(bytes: &[u8]) -> Result<(u16, &[u8]), Fault>
-    ensures { Gives (λ x. (x.0, x.1.now)) result (number_in w16 bytes.now) }
+    ensures read { Gives (λ x. (x.0, x.1.now)) result (number_in w16 bytes.now) }
+    ensures memory { IfErr result IsBad }
 {
     if bytes.len() < 2 {
         return bad(bytes);
@@ -26,7 +28,8 @@ fn u16_in(bytes: &[u8]) -> Result<(u16, &[u8]), Fault>
 
 #[tactic(auto, unfolding(crate::specs::Decoding::number_in))]
 pub(crate) fn u32_in(bytes: &[u8]) -> Result<(u32, &[u8]), Fault>
-    ensures { Gives (λ x. (x.0, x.1.now)) result (number_in w32 bytes.now) }
+    ensures read { Gives (λ x. (x.0, x.1.now)) result (number_in w32 bytes.now) }
+    ensures memory { IfErr result IsBad }
 {
     if bytes.len() < 4 {
         return bad(bytes);
@@ -38,7 +41,8 @@ pub(crate) fn u32_in(bytes: &[u8]) -> Result<(u32, &[u8]), Fault>
 
 #[tactic(auto, unfolding(crate::specs::Decoding::number_in))]
 pub(crate) fn u64_in(bytes: &[u8]) -> Result<(u64, &[u8]), Fault>
-    ensures { Gives (λ x. (x.0, x.1.now)) result (number_in w64 bytes.now) }
+    ensures read { Gives (λ x. (x.0, x.1.now)) result (number_in w64 bytes.now) }
+    ensures memory { IfErr result IsBad }
 {
     if bytes.len() < 8 {
         return bad(bytes);
@@ -52,7 +56,8 @@ pub(crate) fn u64_in(bytes: &[u8]) -> Result<(u64, &[u8]), Fault>
 
 #[tactic(auto, unfolding(crate::specs::Decoding::text_in))]
 fn text_in(len: usize, bytes: &[u8]) -> Result<(&[u8], &[u8]), Fault>
-    ensures { Gives (λ x. (x.0.now, x.1.now)) result (text_in len bytes.now) }
+    ensures read { Gives (λ x. (x.0.now, x.1.now)) result (text_in len bytes.now) }
+    ensures memory { IfErr result IsBad }
 {
     if bytes.len() < len {
         return bad(bytes);
@@ -63,7 +68,8 @@ fn text_in(len: usize, bytes: &[u8]) -> Result<(&[u8], &[u8]), Fault>
 /// What stands behind the bytes that are wanted.
 #[tactic(auto, unfolding(crate::specs::Decoding::expected_in))]
 pub(crate) fn expected<'a>(wanted: &[u8], bytes: &'a [u8]) -> Result<&'a [u8], Fault>
-    ensures { Gives (λ rest. rest.now) result (expected_in wanted.now bytes.now) }
+    ensures read { Gives (λ rest. rest.now) result (expected_in wanted.now bytes.now) }
+    ensures memory { IfErr result IsBad }
 {
     let (text, rest) = text_in(wanted.len(), bytes)?;
     if text != wanted {
@@ -79,7 +85,8 @@ pub(crate) fn key_of<'a>(
     listed: Option<&[u8]>,
     bytes: &'a [u8],
 ) -> Result<(&'a [u8], &'a [u8]), Fault>
-    ensures { Gives (λ x. (x.0.now, x.1.now)) result (key_in (is_key last.now (option_map (λ k. k.now) listed.entry)) bytes.now) }
+    ensures read { Gives (λ x. (x.0.now, x.1.now)) result (key_in (is_key last.now (option_map (λ k. k.now) listed.entry)) bytes.now) }
+    ensures memory { IfErr result IsBad }
 {
     let (len, at_key) = u16_in(bytes)?;
     if len == 0 {
@@ -103,7 +110,8 @@ fn is_key(last: &[u8], listed: Option<&[u8]>, key: &[u8]) -> bool
 
 #[tactic(auto, unfolding(crate::specs::Decoding::value_in))]
 fn value_of(bytes: &[u8]) -> Result<(&[u8], &[u8]), Fault>
-    ensures { Gives (λ x. (x.0.now, x.1.now)) result (value_in bytes.now) }
+    ensures read { Gives (λ x. (x.0.now, x.1.now)) result (value_in bytes.now) }
+    ensures memory { IfErr result IsBad }
 {
     let (len, rest) = u32_in(bytes)?;
     text_in(len as usize, rest)
@@ -116,7 +124,8 @@ pub(crate) fn entry_of<'a>(
     listed: Option<&[u8]>,
     bytes: &'a [u8],
 ) -> Result<(&'a [u8], &'a [u8], &'a [u8]), Fault>
-    ensures { Gives (λ x. (record { key = x.0.now; value = x.1.now }, x.2.now)) result (entry_in (is_key last.now (option_map (λ k. k.now) listed.entry)) bytes.now) }
+    ensures read { Gives (λ x. (record { key = x.0.now; value = x.1.now }, x.2.now)) result (entry_in (is_key last.now (option_map (λ k. k.now) listed.entry)) bytes.now) }
+    ensures memory { IfErr result IsBad }
 {
     let (key, rest) = key_of(last, listed, bytes)?;
     let (value, rest) = value_of(rest)?;

@@ -9,7 +9,7 @@ use std::test::*;
 
 type Pairs = &'static [(&'static [u8], &'static [u8])];
 
-const VALUE: &[u8] = b"\x00\x04\x02\x02\x02\x66\x0a\x00\x00\x00\x00\x00";
+pub(crate) const VALUE: &[u8] = b"\x00\x04\x02\x02\x02\x66\x0a\x00\x00\x00\x00\x00";
 
 // No entries, and one entry: what the format says, byte for byte.
 const WRITTEN: [(Pairs, &[u8]); 2] = [
@@ -24,7 +24,7 @@ const WRITTEN: [(Pairs, &[u8]); 2] = [
     (&[(b"p", VALUE)], ONE),
 ];
 
-const ONE: &[u8] = b"DATABLK*\x00\x00\x00\x13\x00\x01p\x00\x00\x00\x0c\
+pub(crate) const ONE: &[u8] = b"DATABLK*\x00\x00\x00\x13\x00\x01p\x00\x00\x00\x0c\
     \x00\x04\x02\x02\x02\x66\x0a\x00\x00\x00\x00\x00\
     IDXROOT2\x00\x00\x00\x13\x00\x00\x00\x01\
     \x00\x00\x00\x00\x00\x00\x00\x00\x00\x00\x00\x1f\x00\x01p\
@@ -64,14 +64,17 @@ const BROKEN: [(usize, u8, usize); 27] = [
     (125, 1, 110),
 ];
 
-fn entry(alloc: Global, key: &[u8], value: &[u8]) -> Result<Entry, AllocError> {
+pub(crate) fn entry(alloc: Global, key: &[u8], value: &[u8]) -> Result<Entry, AllocError> {
     Ok(Entry {
         key: Bytes::from_slice(alloc, key)?,
         value: Bytes::from_slice(alloc, value)?,
     })
 }
 
-fn entries_of(alloc: Global, pairs: &[(&[u8], &[u8])]) -> Result<Vec<Entry>, AllocError> {
+pub(crate) fn entries_of(
+    alloc: Global,
+    pairs: &[(&[u8], &[u8])],
+) -> Result<Vec<Entry>, AllocError> {
     let mut entries = Vec::new(alloc);
     for &(key, value) in pairs {
         entries.push(entry(alloc, key, value)?)?;
@@ -80,7 +83,7 @@ fn entries_of(alloc: Global, pairs: &[(&[u8], &[u8])]) -> Result<Vec<Entry>, All
 }
 
 // An entry whose value has so many bytes.
-fn long_entry(alloc: Global, key: &[u8], len: usize) -> Result<Entry, AllocError> {
+pub(crate) fn long_entry(alloc: Global, key: &[u8], len: usize) -> Result<Entry, AllocError> {
     let mut value = Vec::new(alloc);
     value.resize(len, 7)?;
     entry(alloc, key, &value)
@@ -101,7 +104,7 @@ fn are_entries(entries: &[Entry]) -> bool
 }
 
 // The file of the entries, where they have one.
-fn written(alloc: Global, entries: &[Entry]) -> Result<Option<Vec<u8>>, AllocError> {
+pub(crate) fn written(alloc: Global, entries: &[Entry]) -> Result<Option<Vec<u8>>, AllocError> {
     if !are_entries(entries) || size(entries) > MOST_BYTES as u64 {
         return Ok(None);
     }

@@ -21,10 +21,10 @@ returns-in_err-key c =
     let some : 0 < length l.rest.now = grind (arith, nat_tests) in
     let room : c.args.len - length l.rest.now < 16_384 = omega arith in
     let p = err_from_is_err_and c.from_residual.result c.from_residual.ensures.1 in
-    rw (p.1, p.2) (behind_fails c.in_err-key.field-0.0 c.args.entries.now.items _ (bad_entry c.in_err-key.field-0.0 l.entries.items c.args.len l.last.now l.rest.now _ some room c.in_err-key.ensures l.invariant.read))
+    rw (p.1, p.2) (behind_fails c.in_err-key.field-0.0 c.args.entries.now.items _ (bad_entry c.in_err-key.field-0.0 l.entries.items c.args.len l.last.now l.rest.now _ some room c.in_err-key.ensures.read l.invariant.read))
 
 pub loop-rest-smaller : goal.loop-rest-smaller
-loop-rest-smaller c = entry_shorter _ _ _ c.in_ok-key.ensures
+loop-rest-smaller c = entry_shorter _ _ _ c.in_ok-key.ensures.read
 
 pub loop-rest-preserved : goal.loop-rest-preserved
 loop-rest-preserved c =
@@ -32,9 +32,9 @@ loop-rest-preserved c =
     let test : eqb (length l.rest.now) 0 ≡ false = sym c.is_empty.ensures ∙ c.loop-rest-test.true in
     let some : 0 < length l.rest.now = grind (arith, nat_tests) in
     let room : c.args.len - length l.rest.now < 16_384 = omega arith in
-    let short = entry_shorter _ _ _ c.in_ok-key.ensures in
+    let short = entry_shorter _ _ _ c.in_ok-key.ensures.read in
     record {
-      read = rw c.in_ok-push.ensures (more_entries l.entries.items c.args.len l.last.now l.rest.now _ c.in_ok-key.behind.now _ some room c.in_ok-key.ensures l.invariant.read);
+      read = rw c.in_ok-push.ensures (more_entries l.entries.items c.args.len l.last.now l.rest.now _ c.in_ok-key.behind.now _ some room c.in_ok-key.ensures.read l.invariant.read);
       last = sym (ap (last_key []) c.in_ok-push.ensures ∙ last_key-append [] l.entries.items _);
       within = omega (arith, l.invariant.within, short);
     }

@@ -1,0 +1,14 @@
+use Rattle.std.proofs.Common.{rules, of_calls}
+use Rattle.std.proofs.lemmas.Fn.{always_returns_same}
+use Rattle.mx_hfile.specs.declared.loading.Held.{Held}
+use Rattle.mx_hfile.specs.Held.{is_through}
+use Rattle.mx_hfile.proofs.KeyLemmas.{through_down}
+use Rattle.mx_hfile.proofs.HeldLemmas.{parted, counted}
+use Rattle.mx_hfile.proofs.loading.count_through.Goals as goal
+
+pub returns : goal.returns
+returns c =
+    let key = c.args.prefix.now in
+    let point = c.partition_point.ensures.partitioned (λ (h : Held). is_through key h.key) (always_returns_same _ _ _ (λ a r f k. search (rules, of_calls)))
+    (parted (is_through key) c.args.held.now c.requires (through_down key)) in
+    counted (is_through key) c.args.held.now c.partition_point.result c.partition_point.ensures.bound point

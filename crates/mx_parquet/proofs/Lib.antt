@@ -1,0 +1,6 @@
+pub mod Cells
+pub mod Pages
+pub mod Numbers
+pub mod Structs
+pub mod Files
+pub mod Writable

@@ -4,3 +4,5 @@ pub mod Numbers
 pub mod Structs
 pub mod Files
 pub mod Writable
+pub mod Again
+pub mod FileAgain

@@ -4,3 +4,4 @@ pub mod Shape
 pub mod Encoding
 pub mod Fits
 pub mod Seen
+pub mod Decoding

@@ -1,4 +1,4 @@
-//! Files of rows in Parquet, as the data files of a table are: so far their one written form.
+//! Files of rows in Parquet, as the data files of a table are: their one written form, and which bytes stand for rows.
 //!
 //! A file has a chunk for each column, the five of Hudi before those of the schema, and a footer that says where they
 //! stand (`specs/Columns.antt`, `specs/Encoding.antt`). A chunk is one page behind its header. Headers and footer are
@@ -16,14 +16,17 @@
 //! | `rows_fit` | whether a file of a schema can hold the rows |
 //! | `write_rows` | the one file of the rows |
 //! | `size_rows` | its length, without writing it |
+//! | `a_written_file_holds_its_rows` | what is written stands for its schema and its rows |
 //!
-//! Nothing reads a file yet.
+//! `specs/Decoding.antt` says which bytes stand for which rows, in any number of row groups and pages and with fields
+//! that are passed over (`Decodes`). Nothing reads a file yet.
 #![tactic(auto)]
 
 mod column;
 mod file_size;
 mod fitting;
 mod footer;
+mod law;
 mod page;
 mod page_size;
 mod row;
@@ -32,6 +35,7 @@ mod thrift_size;
 mod writing;
 
 pub use fitting::rows_fit;
+pub use law::a_written_file_holds_its_rows;
 pub use row::FullRow;
 pub use writing::{size_rows, write_rows};
 

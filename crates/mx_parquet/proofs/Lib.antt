@@ -1,0 +1,8 @@
+pub mod Cells
+pub mod Pages
+pub mod Numbers
+pub mod Structs
+pub mod Files
+pub mod Writable
+pub mod Again
+pub mod FileAgain

@@ -1,0 +1,43 @@
+//! Files of rows in Parquet, as the data files of a table are: their one written form, and which bytes stand for rows.
+//!
+//! A file has a chunk for each column, the five of Hudi before those of the schema, and a footer that says where they
+//! stand (`specs/Columns.antt`, `specs/Encoding.antt`). A chunk is one page behind its header. Headers and footer are
+//! structs of Thrift (`specs/Shape.antt`), written as `mx_thrift` writes structs. Numbers are little-endian.
+//!
+//! ```text
+//! file   = "PAR1" chunk* footer footer-length:u32 "PAR1"
+//! chunk  = page-header page
+//! page   = [levels-length:u32 levels] cell*      levels where the column allows nulls, and no cell for a null
+//! cell   = length:u32 bytes | i32 | i64          truth values are bits, eight in a byte, the lowest first
+//! ```
+//!
+//! | call | contract |
+//! |---|---|
+//! | `rows_fit` | whether a file of a schema can hold the rows |
+//! | `write_rows` | the one file of the rows |
+//! | `size_rows` | its length, without writing it |
+//! | `a_written_file_holds_its_rows` | what is written stands for its schema and its rows |
+//!
+//! `specs/Decoding.antt` says which bytes stand for which rows, in any number of row groups and pages and with fields
+//! that are passed over (`Decodes`). Nothing reads a file yet.
+#![tactic(auto)]
+
+mod column;
+mod file_size;
+mod fitting;
+mod footer;
+mod law;
+mod page;
+mod page_size;
+mod row;
+mod shape;
+mod thrift_size;
+mod writing;
+
+pub use fitting::rows_fit;
+pub use law::a_written_file_holds_its_rows;
+pub use row::FullRow;
+pub use writing::{size_rows, write_rows};
+
+#[cfg(test)]
+mod tests;

@@ -219,7 +219,6 @@ left_among (left ∷ ps) at among = step (among_cases at left.at (instants_of ps
         let both = further there in
         (among_back (object_path (inflight_name at)) (left_by left) (flat_map left_by ps) both.0, among_back (object_path (requested_name at)) (left_by left) (flat_map left_by ps) both.1)
 
-
 module _ (o : Objects) (opens : IsOpenable o) (pendings : List Pending) (are : ArePending o pendings) where
   abbrev paths : List (List ℕ)
   paths = flat_map left_by pendings

@@ -23,11 +23,7 @@ pub struct Plan {
 }
 
 /// Reads the folder and works out what is to be deleted. It changes nothing.
-pub fn read_plan<S: Store>(
-    alloc: Global,
-    store: &mut S,
-    now: Instant,
-) -> Result<Plan, ReadError>
+pub fn read_plan<S: Store>(alloc: Global, store: &mut S, now: Instant) -> Result<Plan, ReadError>
     requires meant { 0 < now }
     ensures plans { IfSome (S.journal store.old) (λ journal. Plans now (objects_of journal) result) }
     ensures plain { IfOk result (λ plan. All IsDeletion plan.changes) }

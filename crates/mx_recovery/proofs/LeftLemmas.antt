@@ -1,14 +1,13 @@
 -- Nothing that counts rests on what pending commits left.
-use Rattle.std.proofs.Common.{◌≡◌, ◌≢◌, ◌⊎◌, inl, inr, ⊎_elim, ℕ, ◌+◌, ◌<◌, arith, Bool, true, false, cond, List, [], ◌∷◌, ◌++◌, length, take, get_or, Option, Some, None, IsSome, is_some, refl, sym, ◌∙◌, ap, subst, codes, nat_eq}
-use Rattle.std.specs.Prelude.{All, Contains, IsTrue, nat_lt, not, ◌&&◌, ◌||◌, option_and_then}
+use Rattle.std.proofs.Common.{◌≡◌, ◌≢◌, ◌⊎◌, inl, inr, ⊎_elim, ℕ, arith, Bool, true, false, cond, List, [], ◌∷◌, ◌++◌, get_or, Option, Some, None, IsSome, is_some, refl, sym, ◌∙◌, ap, subst, nat_eq}
+use Rattle.std.specs.Prelude.{All, Contains, nat_lt, not, ◌&&◌, ◌||◌, option_and_then}
 use Rattle.std.specs.FinMap as finmap
-use Rattle.std.specs.List.{flat_map, starts_with}
+use Rattle.std.specs.List.{flat_map}
 use Rattle.std.specs.Option.{option_map_or}
 use Rattle.std.proofs.lemmas.Bool.{false_from_ne_true}
 use Rattle.std.proofs.lemmas.Bool.Decides.{nat_tests}
 use Rattle.std.proofs.lemmas.List.Elements.{All-cons, All-head, All-tail, All-append, All-contains, All-weaker}
 use Rattle.mx_base.specs.DataFiles.{IsDataFileAt}
-use Rattle.mx_base.specs.Names.{IsPartition}
 use Rattle.mx_base.specs.Objects.{IsObjectName, is_object_name, is_instant, object_path}
 use Rattle.mx_base.specs.Paths.{data_path, data_file_name}
 use Rattle.mx_base.specs.declared.data_file.DataFile.{DataFile}
@@ -25,16 +24,16 @@ use Rattle.mx_store.proofs.Journal.{objects_of-push}
 use Rattle.mx_store.proofs.Paths.{at_left, at_removed}
 use Rattle.mx_folder.specs.Named.{object_at, commit_name, delta_name, is_hidden}
 use Rattle.mx_folder.specs.Actions.{IsCompleted}
-use Rattle.mx_folder.specs.Folder.{IsObjectAt, IsOpenable, IsValidTable}
-use Rattle.mx_folder.specs.Pending.{requested_name, inflight_name, delta_mark, inflight_files, IsPending, ArePicked, IsLeft, ArePending, left_by, deletes, recovery_changes, instants_of}
+use Rattle.mx_folder.specs.Folder.{IsOpenable, IsValidTable}
+use Rattle.mx_folder.specs.Pending.{requested_name, inflight_name, delta_mark, inflight_files, IsPending, ArePicked, IsLeft, ArePending, left_by, deletes, instants_of}
 use Rattle.mx_folder.specs.Reading.{IsLogOf, IsDataFileOf, Reads}
-use Rattle.mx_folder.specs.Steps.{DifferAt, IsLoose, IsMadeBefore, MayStand}
+use Rattle.mx_folder.specs.Steps.{IsLoose, IsMadeBefore}
 use Rattle.mx_folder.specs.declared.pending.Pending.{Pending}
 use Rattle.mx_folder.proofs.LooseLemmas.{loose_keeps}
 use Rattle.mx_folder.proofs.NamedLemmas.{object_at-same, object_at-stands, object_at-some, object_at-is, is_some_same}
 use Rattle.mx_folder.proofs.PendingLemmas.{pending_loose, outside_loose, hidden_object}
 use Rattle.mx_mirror.specs.Mirror.{IsNoConfig}
-use Rattle.mx_mirror.specs.State.{IsLastAfter, MayChange}
+use Rattle.mx_mirror.specs.State.{MayChange}
 use Rattle.mx_mirror.specs.Turns.{MayChangeInTurn}
 use Rattle.mx_recovery.specs.Recovering.{IsSettled}
 use Rattle.mx_recovery.proofs.DeleteLemmas.{among_head, among_tail, among_cases, among_none, among_front, among_back, deletes_none, deletes_left, deletes_gone}
@@ -121,9 +120,6 @@ delta_test false b c h = absurd (cc h)
 delta_named : (at : ℕ) → IsObjectName (requested_name at) → IsObjectName (delta_name at)
 delta_named at is = delta_test (nat_lt 0 at) (is_instant at) (not true) is
 
-mark_named : (at : ℕ) → IsObjectName (requested_name at) → IsObjectName (delta_mark at)
-mark_named at is = delta_test (nat_lt 0 at) (is_instant at) (not true) is
-
 -- the files that a list of files has are data files
 listed_outside : (o : Objects) → IsOpenable o → (at : ℕ) → All (λ (path : List ℕ). is_hidden path ≡ false) (inflight_files o at)
 unfolding inflight_files
@@ -174,7 +170,7 @@ module _ (o : Objects) (opens : IsOpenable o) where
       All-append (MayGo o) left.logs (deltas_on left)
       (All-weaker (IsLogOf left.at) (MayGo o) (λ path log. inr (left.at, Log log.0 log.1 left.at, log.2, refl, log.3, pending)) left.logs (picked_all (IsLogOf left.at) (finmap.keys o) left.logs is.logs))
       (All-cons (MayGo o) (object_path (delta_name left.at)) (object_path (delta_mark left.at) ∷ files_on left) (inr (left.at, delta_name left.at, delta_named left.at named, refl, refl, pending))
-      (All-cons (MayGo o) (object_path (delta_mark left.at)) (files_on left) (inr (left.at, delta_mark left.at, mark_named left.at named, refl, refl, pending))
+      (All-cons (MayGo o) (object_path (delta_mark left.at)) (files_on left) (inr (left.at, delta_mark left.at, delta_named left.at named, refl, refl, pending))
       (All-append (MayGo o) left.files (last_two left)
       (subst (All (MayGo o)) (sym is.files) (All-weaker (λ (path : List ℕ). is_hidden path ≡ false) (MayGo o) (λ path outer. inl outer) (inflight_files o left.at) (listed_outside o opens left.at)))
       (All-cons (MayGo o) (object_path (inflight_name left.at)) (object_path (requested_name left.at) ∷ []) (inr (left.at, inflight_name left.at, named, refl, refl, pending))

@@ -1,19 +1,15 @@
 -- What the opening of a folder works out.
 use Rattle.std.proofs.Common.{◌≡◌, ◌≢◌, ◌⊎◌, inl, inr, ⊎_elim, ℕ, ◌+◌, ◌-◌, ◌<◌, ◌≤◌, arith, Bool, true, false, cond, ◌||◌, List, [], ◌∷◌, ◌++◌, length, take, get_or, Option, Some, None, IsSome, IfSome, is_some, refl, sym, ◌∙◌, ap, subst}
-use Rattle.std.specs.Prelude.{All, Contains, IfOk, IsTrue, Result, Ok, Err, OnOk, max, not, filter}
-use Rattle.std.specs.BTreeSet as tree
+use Rattle.std.specs.Prelude.{All, Contains, max, not, filter}
 use Rattle.std.specs.BTreeSet.{BTreeSet, contains}
-use Rattle.std.specs.Cmp.Lexicographic.{slice_cmp, nat_list_cmp_total}
-use Rattle.std.specs.Cmp.{eq_by_cmp_equiv}
+use Rattle.std.specs.Cmp.Lexicographic.{slice_cmp}
 use Rattle.std.specs.FinMap as finmap
 use Rattle.std.specs.FinMap.{contains_key-keys}
 use Rattle.std.specs.List.{flat_map, list_any}
 use Rattle.std.specs.Ordering.{nat_cmp, eq_by_cmp}
 use Rattle.std.proofs.lemmas.List.{take_all, take_more}
-use Rattle.std.proofs.lemmas.List.Elements.{All-append, All-contains, All-weaker}
-use Rattle.mx_base.specs.DataFiles.{IsDataFileAt}
+use Rattle.std.proofs.lemmas.List.Elements.{All-contains, All-weaker}
 use Rattle.mx_base.specs.Objects.{IsObjectName, object_path}
-use Rattle.mx_base.specs.declared.data_file.DataFile.{DataFile}
 use Rattle.mx_base.specs.declared.object_name.ObjectName.{ObjectName}
 use Rattle.mx_base.specs.declared.object_name.ObjectName.TheVariants.{Config}
 use Rattle.mx_base.proofs.ObjectLemmas.{object_path-injective}
@@ -22,23 +18,21 @@ use Rattle.mx_model.proofs.NumberLemmas.{turned}
 use Rattle.mx_props.specs.Config.{config_text}
 use Rattle.mx_store.specs.Objects.{Objects, at_path, after_all}
 use Rattle.mx_store.specs.declared.change.Change.{Change}
-use Rattle.mx_store.specs.declared.change.Change.TheVariants.{Create, Put, Delete}
+use Rattle.mx_store.specs.declared.change.Change.TheVariants.{Delete}
 use Rattle.mx_store.proofs.Keys.{in_keys, stands_from_keys}
 use Rattle.mx_store.proofs.Paths.{cases_path, path_same, path_other, at_left, at_removed}
-use Rattle.mx_folder.specs.Named.{object_at, is_hidden}
+use Rattle.mx_folder.specs.Named.{is_hidden}
 use Rattle.mx_folder.specs.Folder.{IsOpenable}
-use Rattle.mx_folder.specs.Pending.{ArePending, deletes, left_by, recovery_changes}
+use Rattle.mx_folder.specs.Pending.{deletes, left_by, recovery_changes}
 use Rattle.mx_folder.specs.declared.pending.Pending.{Pending}
 use Rattle.mx_folder.proofs.NamedLemmas.{object_at-is}
 use Rattle.mx_folder.proofs.PendingLemmas.{hidden_object}
-use Rattle.mx_mirror.specs.Instants.{NamesInstant, AreUpto, instant_of}
-use Rattle.mx_mirror.specs.Mirror.{IsMirrorOf, IsNoConfig}
-use Rattle.mx_mirror.specs.declared.mirror.Mirror.{Mirror}
+use Rattle.mx_mirror.specs.Instants.{NamesInstant, instant_of}
+use Rattle.mx_mirror.specs.Mirror.{IsNoConfig}
 use Rattle.mx_open.specs.Opening.{IsFolderOf}
 use Rattle.mx_open.specs.declared.folder.Folder.{Folder}
 use Rattle.mx_recovery.specs.Recovering.{IsLast, NamedIn}
-use Rattle.mx_recovery.specs.Planning.{IsGreatestOf, GoesOver, IsLastOf, stands_among, AreStanding, IsDeletion, IsPlanOf}
-use Rattle.mx_recovery.specs.declared.plan.Plan.{Plan}
+use Rattle.mx_recovery.specs.Planning.{IsGreatestOf, GoesOver, IsLastOf, stands_among, AreStanding}
 use Rattle.mx_recovery.proofs.DeleteLemmas.{among_none, among_head, among_tail, among_cases, among_front, deletes-append, after_all-append}
 use Rattle.mx_recovery.proofs.LeftLemmas.{data_outside, all_may_go, no_config}
 

@@ -1,22 +1,18 @@
 -- What changes that were made in turn leave.
-use Rattle.std.proofs.Common.{◌≡◌, ◌≢◌, ◌⊎◌, inl, inr, ⊎_elim, ℕ, ◌+◌, ◌-◌, ◌<◌, ◌≤◌, arith, List, [], ◌∷◌, ◌++◌, length, take, Option, Some, None, IsSome, IfSome, refl, sym, ◌∙◌, ap, subst, length-append, append_assoc}
-use Rattle.std.specs.Prelude.{All, Contains, Result, Ok, Err}
+use Rattle.std.proofs.Common.{◌≡◌, inr, ⊎_elim, ℕ, ◌+◌, ◌-◌, ◌≤◌, arith, List, [], ◌∷◌, ◌++◌, length, take, Option, Some, None, IfSome, refl, sym, ◌∙◌, ap, subst, length-append, append_assoc}
+use Rattle.std.specs.Prelude.{All, Ok, Err}
 use Rattle.std.specs.List.{flat_map}
-use Rattle.std.proofs.lemmas.List.{take-append-le}
 use Rattle.std.proofs.lemmas.List.Elements.{All-head, All-tail}
 use Rattle.mx_store.specs.declared.change.Change.{Change}
 use Rattle.mx_store.specs.declared.change.Change.TheVariants.{Create, Put, Delete}
 use Rattle.mx_store.specs.Calls.{with_change}
 use Rattle.mx_store.specs.Objects.{Objects, objects_of, after_all}
-use Rattle.mx_store.proofs.Longer.{EachSince-start}
-use Rattle.mx_folder.specs.Folder.{IsOpenable, IsValidTable}
-use Rattle.mx_folder.specs.Pending.{ArePending, left_by, deletes, recovery_changes}
-use Rattle.mx_folder.specs.declared.pending.Pending.{Pending}
+use Rattle.mx_folder.specs.Pending.{left_by, recovery_changes}
 use Rattle.mx_mirror.specs.declared.error.ChangeError.{ChangeError}
 use Rattle.mx_mirror.specs.declared.error.ChangeError.TheVariants.{InDoubt, Changed, StoreFault, NoMemory}
 use Rattle.mx_mirror.specs.declared.mirror.Mirror.{Mirror}
 use Rattle.mx_mirror.specs.Mirror.{IsPlain}
-use Rattle.mx_mirror.specs.State.{Shown, Standing, standing, IsMade, CountsOne, IsLastAfter, IsKept, Holds, Stands, StaysValid, Changes}
+use Rattle.mx_mirror.specs.State.{Shown, Standing, standing, CountsOne, IsLastAfter, Stands, StaysValid, Changes}
 use Rattle.mx_mirror.specs.Turns.{AreMade, StopsAt, MayMakeInTurn, MayChangeInTurn}
 use Rattle.mx_recovery.specs.Recovering.{Opens, IsOpened, IsOpenedUntold, IsFront, IsLast, IsRefused, IsSettled}
 use Rattle.mx_recovery.specs.Planning.{IsDeletion, IsPlanOf, why_of}

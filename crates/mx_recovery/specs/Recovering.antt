@@ -1,5 +1,5 @@
 -- What the opening of a table leaves of it.
-use Rattle.std.specs.Prelude.{◌≡◌, ◌⊎◌, ℕ, ◌+◌, ◌-◌, ◌≤◌, List, ◌++◌, length, take, Option, Some, None, IsSome, Result, Ok, Err}
+use Rattle.std.specs.Prelude.{◌≡◌, ◌⊎◌, ℕ, ◌-◌, ◌≤◌, List, ◌++◌, length, take, Option, Some, None, IsSome, Result, Ok, Err}
 use Rattle.mx_base.specs.declared.object_name.ObjectName.TheVariants.{Config}
 use Rattle.mx_store.specs.Objects.{Objects, at_path, objects_of}
 use Rattle.mx_store.specs.declared.change.Change.{Change}

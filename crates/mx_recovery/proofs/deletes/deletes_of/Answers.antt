@@ -1,4 +1,4 @@
-use Rattle.std.proofs.Common.{sym, rules}
+use Rattle.std.proofs.Common.{sym}
 use Rattle.std.proofs.lemmas.List.Elements.{All-contains}
 use Rattle.mx_folder.specs.Pending.{deletes}
 use Rattle.mx_mirror.specs.Mirror.{IsNoConfig}

@@ -1,4 +1,4 @@
-use Rattle.std.proofs.Common.{sym, ◌∙◌}
+use Rattle.std.proofs.Common.{◌∙◌}
 use Rattle.mx_recovery.proofs.PlanLemmas.{named_instant}
 use Rattle.mx_recovery.proofs.instants.instant_in.Goals as goal
 

@@ -1,6 +1,6 @@
 -- The names of a folder tell its pending commits, and what these left.
-use Rattle.std.proofs.Common.{◌≡◌, ◌≢◌, ◌⊎◌, inl, inr, ⊎_elim, ℕ, ◌+◌, ◌^◌, ◌<◌, arith, Bool, true, false, cond, ◌&&◌, ◌||◌, suc, List, [], ◌∷◌, ◌++◌, take, get_or, length, map, Option, Some, None, IsSome, refl, sym, ◌∙◌, ap, subst, codes}
-use Rattle.std.specs.Prelude.{Contains, IsTrue, All, IfOk, Result, Ok, Err, not, filter, nat_eq, nat_lt, option_and_then, unwrap_or}
+use Rattle.std.proofs.Common.{◌≡◌, ◌≢◌, ◌⊎◌, inl, inr, ⊎_elim, ℕ, ◌+◌, ◌^◌, ◌<◌, arith, Bool, true, false, cond, ◌||◌, List, [], ◌∷◌, ◌++◌, take, get_or, length, map, Option, Some, None, IsSome, refl, sym, ◌∙◌, ap, subst, codes}
+use Rattle.std.specs.Prelude.{Contains, IsTrue, IfOk, Result, Ok, Err, not, filter, nat_eq, nat_lt, option_and_then, unwrap_or}
 use Rattle.std.specs.BTreeMap as tree
 use Rattle.std.specs.BTreeMap.{BTreeMap}
 use Rattle.std.specs.BTreeSet.{BTreeSet, contains}
@@ -21,12 +21,10 @@ use Rattle.std.proofs.lemmas.Map.Views.{btree_set_contains_iff, tells_apart}
 use Rattle.std.proofs.lemmas.Slice.Eq.{bytes_eq-Decides}
 use Rattle.mx_base.specs.Objects.{is_object_name, IsObjectName, is_instant, object_path}
 use Rattle.mx_base.specs.Paths.{commit_instant}
-use Rattle.mx_base.specs.declared.object_name.ActionKind.TheVariants as action
-use Rattle.mx_base.specs.declared.object_name.ActionState.TheVariants.{Requested, Inflight, Completed}
 use Rattle.mx_base.specs.declared.object_name.ObjectName.{ObjectName}
-use Rattle.mx_base.specs.declared.object_name.ObjectName.TheVariants.{Config, Timeline, Metadata, Base, Log}
+use Rattle.mx_base.specs.declared.object_name.ObjectName.TheVariants.{Log}
 use Rattle.mx_base.proofs.NameLemmas.{both}
-use Rattle.mx_base.proofs.ObjectLemmas.{object_path-injective, object_path-commit}
+use Rattle.mx_base.proofs.ObjectLemmas.{object_path-commit}
 use Rattle.mx_base.proofs.PathLemmas.{IsCommitAt-commit_instant, commit_instant-commit_path}
 use Rattle.mx_meta.specs.PathLists.{path_list_of}
 use Rattle.mx_meta.specs.declared.path_list.PathList.{PathList}
@@ -39,14 +37,9 @@ use Rattle.mx_folder.specs.Reading.{IsLogOf}
 use Rattle.mx_folder.specs.declared.pending.Pending.{Pending}
 use Rattle.mx_folder.proofs.NamedLemmas.{object_at-is, object_at-stands, is_some_same}
 use Rattle.mx_folder.proofs.PendingLemmas.{hidden_object}
-use Rattle.mx_open.specs.Leaving.{is_at, begins, is_pending_by, begun_in, AreNamesOf, logs_in, PicksNext, AddsAt, AreLogged, files_in, files_at, leftover}
+use Rattle.mx_open.specs.Leaving.{is_at, begins, is_pending_by, AreNamesOf, logs_in, PicksNext, AddsAt, AreLogged, files_in, files_at, leftover}
 
 -- ---- tests
-
-bool_iff : (a b : Bool) → (a ≡ true → b ≡ true) → (b ≡ true → a ≡ true) → a ≡ b
-bool_iff true b to from = sym (to refl)
-bool_iff false true to from = from refl
-bool_iff false false to from = refl
 
 or_cases : (a b : Bool) → (a || b) ≡ true → (a ≡ true) ⊎ (b ≡ true)
 or_cases true b is = inl refl
@@ -90,34 +83,6 @@ path_inflight : (q : ℕ) (path : List ℕ) → IsObjectName (inflight_name q) �
 path_inflight q path named is =
     both (is_object_name (requested_name q)) (bytes_eq path (object_path (requested_name q)) || bytes_eq path (object_path (inflight_name q))) named
     (or_right (bytes_eq path (object_path (requested_name q))) (bytes_eq path (object_path (inflight_name q))) ((bytes_eq-Decides path (object_path (inflight_name q))).1 is))
-
-begun_named : (name : ObjectName) (q : ℕ) → is_at q (begun_in name) ≡ true → (name ≡ requested_name q) ⊎ (name ≡ inflight_name q)
-begun_named Config q is = absurd (cc is)
-begun_named (Timeline at action.Commit Requested) q is = inl (ap requested_name (nat_eq-is at q is))
-begun_named (Timeline at action.Commit Inflight) q is = inr (ap inflight_name (nat_eq-is at q is))
-begun_named (Timeline at action.Commit Completed) q is = absurd (cc is)
-begun_named (Timeline at action.Clean state) q is = absurd (cc is)
-begun_named (Timeline at action.Rollback state) q is = absurd (cc is)
-begun_named (Timeline at action.Indexing state) q is = absurd (cc is)
-begun_named (Metadata at kind completed) q is = absurd (cc is)
-begun_named (Base part shard upto kind) q is = absurd (cc is)
-begun_named (Log part shard at) q is = absurd (cc is)
-
-pub begins_named : (name : ObjectName) (path : List ℕ) → IsObjectName name → path ≡ object_path name → (q : ℕ) → begins q path ≡ is_at q (begun_in name)
-begins_named name path named is q = bool_iff (begins q path) (is_at q (begun_in name))
-    (λ test.
-    let begun = begun_path q path test in ⊎_elim
-    (λ (r : path ≡ object_path (requested_name q)). ap (λ (n : ObjectName). is_at q (begun_in n)) (object_path-injective name (requested_name q) named begun.0 (sym is ∙ r)) ∙ nat_eq-self q)
-    (λ (r : path ≡ object_path (inflight_name q)). ap (λ (n : ObjectName). is_at q (begun_in n)) (object_path-injective name (inflight_name q) named begun.0 (sym is ∙ r)) ∙ nat_eq-self q)
-    begun.1)
-    (λ test. ⊎_elim
-    (λ (r : name ≡ requested_name q). path_requested q path (subst IsObjectName r named) (is ∙ ap object_path r))
-    (λ (r : name ≡ inflight_name q). path_inflight q path (subst IsObjectName r named) (is ∙ ap object_path r))
-    (begun_named name q test))
-
-pub begins_none : (path : List ℕ) → ((name : ObjectName) → IsObjectName name → path ≡ object_path name → ⊥) → (q : ℕ) → begins q path ≡ false
-begins_none path none q = false_from_ne_true (begins q path) (λ test.
-    let begun = begun_path q path test in ⊎_elim (λ (r : path ≡ object_path (requested_name q)). none (requested_name q) begun.0 r) (λ (r : path ≡ object_path (inflight_name q)). none (inflight_name q) begun.0 r) begun.1)
 
 -- ---- the commit that a path completes
 

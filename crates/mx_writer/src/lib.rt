@@ -10,5 +10,7 @@
 
 mod committing;
 mod plan;
+#[cfg(test)]
+mod tests;
 
 pub use committing::{CommitError, commit};

@@ -1,5 +1,4 @@
-use Rattle.std.proofs.Common.{ℕ, ◌≡◌, sym, ◌∙◌, inr, refl, Some}
-use Rattle.std.specs.Prelude.{IsTrue}
+use Rattle.std.proofs.Common.{sym, ◌∙◌, inr, refl}
 use Rattle.mx_model.proofs.TreeLemmas.{on_ok}
 use Rattle.mx_open.proofs.LeavingLemmas.{log_next}
 use Rattle.mx_open.proofs.pending.note_log.Goals as goal

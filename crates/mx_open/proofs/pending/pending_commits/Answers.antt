@@ -1,5 +1,3 @@
-use Rattle.std.proofs.Common.{Result, List, Ok, Err, ◌≡◌, map}
-use Rattle.std.specs.Prelude.{IfOk}
 use Rattle.mx_open.proofs.LeavingLemmas.{are_pending, ok_both}
 use Rattle.mx_open.proofs.pending.pending_commits.Goals as goal
 

@@ -1,0 +1,4 @@
+pub mod DeleteLemmas
+pub mod LeftLemmas
+pub mod PlanLemmas
+pub mod TurnLemmas

@@ -5,3 +5,4 @@ pub mod BeginLemmas
 pub mod LooseLemmas
 pub mod CompletionLemmas
 pub mod PendingLemmas
+pub mod CompletedLemmas

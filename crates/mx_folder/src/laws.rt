@@ -1,4 +1,5 @@
-ghost use Rattle.std.specs.Prelude.{◌≡◌, List, ℕ, Some, false};
+ghost use Rattle.std.specs.Prelude.{◌≡◌, List, ℕ, Some, IsSome, false};
+ghost use Rattle.std.specs.List.{flat_map};
 ghost use Rattle.mx_base.specs.Objects.{IsObjectName, object_path};
 ghost use Rattle.mx_base.specs.declared.object_name.ObjectName.{ObjectName};
 ghost use Rattle.mx_schema.specs.Columns.{IsSchema};
@@ -6,7 +7,8 @@ ghost use Rattle.mx_schema.specs.declared.column.Column.{Column};
 ghost use Rattle.mx_store.specs.Objects.{Objects, at_path, objects_of};
 ghost use Rattle.mx_folder.specs.Begin.{init_changes};
 ghost use Rattle.mx_folder.specs.Named.{commit_name, is_hidden};
-ghost use Rattle.mx_folder.specs.Actions.{IsCompleted};
+ghost use Rattle.mx_folder.specs.Actions.{IsCompleted, action_at, actions_upto, added_at, logged_files};
+ghost use Rattle.mx_folder.specs.Completed.{completed_upto};
 ghost use Rattle.mx_folder.specs.Folder.{IsValidTable};
 ghost use Rattle.mx_folder.specs.Steps.{DifferAt, IsLoose, MayStand, IsMadeBefore, MayComplete};
 
@@ -34,4 +36,9 @@ pub fn a_completion_keeps_a_table()
 pub fn a_new_table_is_valid()
     ensures valid { (schema : List Column) → IsSchema schema → IsValidTable (objects_of (init_changes schema)) }
     ensures fresh { (schema : List Column) (at : ℕ) → ¬ (IsCompleted (objects_of (init_changes schema)) at) }
+{}
+
+/// The logs of the completed commits up to an instant are those of the commits that count, where each completed commit reads.
+pub fn completed_commits_count()
+    ensures { (objects : Objects) → ((at : ℕ) → IsCompleted objects at → IsSome (action_at objects at)) → (at : ℕ) → flat_map (added_at objects) (completed_upto objects at) ≡ logged_files objects (actions_upto objects at) }
 {}

@@ -10,6 +10,7 @@
 //! | `loose_changes_keep_a_table` | a law: so does a change at a path on which nothing that counts rests |
 //! | `a_pending_commit_is_loose`, `what_is_outside_is_loose` | laws: nothing that counts rests on these paths |
 //! | `a_new_table_is_valid` | a law: the changes that make a new table (`specs/Begin.antt`) leave one without commits |
+//! | `completed_commits_count` | a law: the logs of the completed commits (`specs/Completed.antt`) are those of the commits that count |
 //! | `a_completion_keeps_a_table` | a law: so does the create that completes a commit, the newest one, whose logs stand and say the same |
 #![tactic(auto)]
 
@@ -18,6 +19,6 @@ mod pending;
 
 pub use laws::{
     a_completion_keeps_a_table, a_new_table_is_valid, a_pending_commit_is_loose,
-    loose_changes_keep_a_table, what_is_outside_is_loose,
+    completed_commits_count, loose_changes_keep_a_table, what_is_outside_is_loose,
 };
 pub use pending::Pending;

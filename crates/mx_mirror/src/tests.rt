@@ -128,22 +128,6 @@ fn change(
     })
 }
 
-// A table of which a change failed, and was applied or not.
-fn doubtful(
-    alloc: Global,
-    standing: &[&str],
-    asked: Change,
-    applied: bool,
-) -> Result<Mirrored<Quiet, Brand>, Fail> {
-    let fails = [(standing.len() as u64, applied)];
-    let mut table = table(alloc, standing, &fails)?;
-    if change(alloc, &mut table, asked)? == "store fault" {
-        Ok(table)
-    } else {
-        Err(Fail::new("the change fails"))
-    }
-}
-
 // Whether no other change is made before the doubt is settled, and one is behind that.
 fn is_blocked_until_settled(
     alloc: Global,
@@ -151,112 +135,202 @@ fn is_blocked_until_settled(
 ) -> Result<bool, Fail> {
     let blocked = change(alloc, table, create(alloc, COMMIT)?)? == "in doubt";
     let settled = table.settle(alloc).is_ok();
-    Ok(blocked && settled && change(alloc, table, create(alloc, COMMIT)?)? == "made")
+    let made = change(alloc, table, create(alloc, COMMIT)?)? == "made";
+    Ok(blocked && settled && made)
+}
+
+fn holds(alloc: Global, table: &Mirrored<Quiet, Brand>, path: &str) -> Result<bool, Fail> {
+    let path = Path::parse(alloc, path)?;
+    Ok(table.mirror().holds(&path))
+}
+
+// Whether the doubt blocks until it is settled, how many changes count then, and whether the path is known.
+fn settled(alloc: Global, table: &mut Mirrored<Quiet, Brand>) -> Result<(bool, u64, bool), Fail> {
+    let blocked = is_blocked_until_settled(alloc, table)?;
+    let known = holds(alloc, table, REQUESTED)?;
+    Ok((blocked, table.seq(), known))
+}
+
+// The same of a create that fails and is applied or not, or of a delete.
+fn after_a_failed_create(alloc: Global, applied: bool) -> Result<(bool, u64, bool), Fail> {
+    let mut table = table(alloc, &[], &[(0, applied)])?;
+    failed(alloc, &mut table, create(alloc, REQUESTED)?)?;
+    settled(alloc, &mut table)
+}
+
+fn after_a_failed_delete(alloc: Global, applied: bool) -> Result<(bool, u64, bool), Fail> {
+    let mut table = table(alloc, &[REQUESTED], &[(1, applied)])?;
+    failed(alloc, &mut table, delete(alloc, REQUESTED)?)?;
+    settled(alloc, &mut table)
+}
+
+fn failed(alloc: Global, table: &mut Mirrored<Quiet, Brand>, asked: Change) -> Result<(), Fail> {
+    if change(alloc, table, asked)? == "store fault" {
+        Ok(())
+    } else {
+        Err(Fail::new("the change fails"))
+    }
 }
 
 #[test]
 fn a_change_that_fails_is_in_doubt_until_its_path_is_read(rt: HostRuntime) -> Result<(), Fail> {
     let alloc = rt.alloc();
-    for (applied, seq) in [(true, 2), (false, 1)] {
-        let mut table = doubtful(alloc, &[], create(alloc, REQUESTED)?, applied)?;
-        assert!(rt; is_blocked_until_settled(alloc, &mut table)?);
-        assert_eq!(rt; table.seq(), seq);
-        assert_eq!(rt;
-            table.mirror().holds(&Path::parse(alloc, REQUESTED)?),
-            applied
-        );
-    }
+    let (blocked, seq, known) = after_a_failed_create(alloc, true)?;
+    assert!(rt; blocked && seq == 2 && known);
+    let (blocked, seq, known) = after_a_failed_create(alloc, false)?;
+    assert!(rt; blocked && seq == 1 && !known);
     Ok(())
 }
 
 #[test]
 fn a_delete_that_fails_is_in_doubt_until_its_path_is_read(rt: HostRuntime) -> Result<(), Fail> {
     let alloc = rt.alloc();
-    for (applied, seq) in [(true, 2), (false, 1)] {
-        let mut table = doubtful(alloc, &[REQUESTED], delete(alloc, REQUESTED)?, applied)?;
-        assert!(rt; is_blocked_until_settled(alloc, &mut table)?);
-        assert_eq!(rt; table.seq(), seq);
-        assert_eq!(rt;
-            table.mirror().holds(&Path::parse(alloc, REQUESTED)?),
-            !applied
-        );
-    }
+    let (blocked, seq, known) = after_a_failed_delete(alloc, true)?;
+    assert!(rt; blocked && seq == 2 && !known);
+    let (blocked, seq, known) = after_a_failed_delete(alloc, false)?;
+    assert!(rt; blocked && seq == 1 && known);
     Ok(())
+}
+
+// Whether the doubt stands after a get that fails, and how many changes count once it is settled.
+fn after_a_failed_get(
+    alloc: Global,
+    table: &mut Mirrored<Quiet, Brand>,
+) -> Result<(bool, u64), Fail> {
+    failed(alloc, table, create(alloc, REQUESTED)?)?;
+    let unsettled = table.settle(alloc).is_err();
+    let blocked = change(alloc, table, create(alloc, COMMIT)?)? == "in doubt";
+    let settled = table.settle(alloc).is_ok();
+    Ok((unsettled && blocked && settled, table.seq()))
 }
 
 #[test]
 fn a_get_that_fails_leaves_the_doubt(rt: HostRuntime) -> Result<(), Fail> {
     let alloc = rt.alloc();
     let mut table = table(alloc, &[], &[(0, true), (1, false)])?;
-    assert_eq!(rt;
-        change(alloc, &mut table, create(alloc, REQUESTED)?)?,
-        "store fault"
-    );
-    assert!(rt; table.settle(alloc).is_err());
-    assert_eq!(rt;
-        change(alloc, &mut table, create(alloc, COMMIT)?)?,
-        "in doubt"
-    );
-    assert!(rt; table.settle(alloc).is_ok());
-    assert_eq!(rt; table.seq(), 1);
+    let (stands, seq) = after_a_failed_get(alloc, &mut table)?;
+    assert!(rt; stands && seq == 1);
     Ok(())
+}
+
+// The last instant after the object was asked for.
+fn last_after(alloc: Global, path: &str, fails: &[(u64, bool)]) -> Result<u64, Fail> {
+    let mut table = table(alloc, &[], fails)?;
+    change(alloc, &mut table, create(alloc, path)?)?;
+    Ok(table.last().number())
 }
 
 #[test]
 fn the_object_that_requests_an_action_draws_its_instant(rt: HostRuntime) -> Result<(), Fail> {
     let alloc = rt.alloc();
+    const DELTA: &str = ".hoodie/metadata/.hoodie/20250101000000000.deltacommit";
     // the object, whether its create fails, and the last instant then
     const CASES: [(&str, bool, u64); 4] = [
         (REQUESTED, false, MOMENT),
         (REQUESTED, true, MOMENT),
         (COMMIT, false, MOMENT - 1),
-        (
-            ".hoodie/metadata/.hoodie/20250101000000000.deltacommit",
-            false,
-            MOMENT - 1,
-        ),
+        (DELTA, false, MOMENT - 1),
     ];
     for (path, fails, last) in CASES {
         let failing: &[(u64, bool)] = if fails { &[(0, false)] } else { &[] };
-        let mut table = table(alloc, &[], failing)?;
-        change(alloc, &mut table, create(alloc, path)?)?;
-        assert_eq!(rt; table.last().number(), last, "{path}");
+        let found = last_after(alloc, path, failing)?;
+        assert_eq!(rt; found, last, "{path}");
     }
     Ok(())
+}
+
+// The words of a create where something stands, and of a delete where nothing does.
+fn declined(
+    alloc: Global,
+    table: &mut Mirrored<Quiet, Brand>,
+) -> Result<(&'static str, &'static str), Fail> {
+    let first = change(alloc, table, create(alloc, REQUESTED)?)?;
+    let second = change(alloc, table, delete(alloc, COMMIT)?)?;
+    Ok((first, second))
 }
 
 #[test]
 fn a_create_where_something_stands_is_refused(rt: HostRuntime) -> Result<(), Fail> {
     let alloc = rt.alloc();
     let mut table = table(alloc, &[REQUESTED], &[])?;
-    assert_eq!(rt;
-        change(alloc, &mut table, create(alloc, REQUESTED)?)?,
-        "changed"
-    );
-    assert_eq!(rt; table.seq(), 0);
-    assert_eq!(rt; change(alloc, &mut table, delete(alloc, COMMIT)?)?, "made");
+    let (first, second) = declined(alloc, &mut table)?;
+    assert_eq!(rt; first, "changed");
+    assert_eq!(rt; second, "made");
     assert_eq!(rt; table.seq(), 0);
     Ok(())
 }
 
+// Whether the commit is completed before its object is made, while that stands, and once it is deleted.
+fn completions(
+    alloc: Global,
+    table: &mut Mirrored<Quiet, Brand>,
+    at: Instant,
+) -> Result<(bool, bool, bool), Fail> {
+    let before = table.mirror().is_completed(at);
+    change(alloc, table, create(alloc, COMMIT)?)?;
+    let stands = table.mirror().is_completed(at);
+    change(alloc, table, delete(alloc, COMMIT)?)?;
+    Ok((before, stands, table.mirror().is_completed(at)))
+}
+
+// Whether the name below `.hoodie/` is known, and the one outside.
+fn known(alloc: Global, table: &mut Mirrored<Quiet, Brand>) -> Result<(bool, bool), Fail> {
+    const OUTSIDE: &str = "2024-01-01/data";
+    change(alloc, table, create(alloc, OUTSIDE)?)?;
+    let below = holds(alloc, table, REQUESTED)?;
+    Ok((below, holds(alloc, table, OUTSIDE)?))
+}
+
 #[test]
-fn a_mirror_knows_the_names_and_the_completed_commits(rt: HostRuntime) -> Result<(), Fail> {
+fn a_mirror_knows_the_completed_commits(rt: HostRuntime) -> Result<(), Fail> {
     let alloc = rt.alloc();
     let mut table = table(alloc, &[REQUESTED], &[])?;
     let Some(at) = Instant::new(MOMENT) else {
         return Err(Fail::new("the moment is an instant"));
     };
-    assert!(rt; table.mirror().holds(&Path::parse(alloc, REQUESTED)?));
-    assert!(rt; !table.mirror().is_completed(at));
-    change(alloc, &mut table, create(alloc, COMMIT)?)?;
-    assert!(rt; table.mirror().is_completed(at));
-    change(alloc, &mut table, delete(alloc, COMMIT)?)?;
-    assert!(rt; !table.mirror().is_completed(at));
-    change(alloc, &mut table, create(alloc, "2024-01-01/data")?)?;
-    assert!(rt;
-        !table
-            .mirror()
-            .holds(&Path::parse(alloc, "2024-01-01/data")?)
-    );
+    let (before, stands, deleted) = completions(alloc, &mut table, at)?;
+    assert!(rt; !before && stands && !deleted);
+    Ok(())
+}
+
+#[test]
+fn a_mirror_knows_the_names_below_the_folder_of_the_table(rt: HostRuntime) -> Result<(), Fail> {
+    let alloc = rt.alloc();
+    let mut table = table(alloc, &[REQUESTED], &[])?;
+    let (below, outside) = known(alloc, &mut table)?;
+    assert!(rt; below && !outside);
+    Ok(())
+}
+
+const INFLIGHT: &str = ".hoodie/20250101000000000.inflight";
+
+// Three changes in turn.
+fn three(alloc: Global) -> Result<Vec<Change>, Fail> {
+    Ok(vec![in alloc;
+        create(alloc, REQUESTED)?,
+        create(alloc, INFLIGHT)?,
+        create(alloc, COMMIT)?,
+    ]?)
+}
+
+// Whether all are made where the call of this number fails, how many are, and whether the last name is known.
+fn in_turn(alloc: Global, call: u64) -> Result<(bool, u64, bool), Fail> {
+    let changes = three(alloc)?;
+    if !changes.iter().all(|change| is_plain(change)) {
+        return Err(Fail::new("the config stays as it is"));
+    }
+    let mut table = table(alloc, &[], &[(call, false)])?;
+    let made = table.change_in_turn(alloc, changes).is_ok();
+    let last = holds(alloc, &table, COMMIT)?;
+    Ok((made, table.seq(), last))
+}
+
+#[test]
+fn changes_in_turn_end_at_the_one_that_fails(rt: HostRuntime) -> Result<(), Fail> {
+    let alloc = rt.alloc();
+    for call in 0..4_u64 {
+        let (made, seq, last) = in_turn(alloc, call)?;
+        assert!(rt; made == (call == 3) && seq == call && last == (call == 3));
+    }
     Ok(())
 }

@@ -1,6 +1,10 @@
 -- The mirror of a folder's listing.
 use Rattle.std.proofs.Common.{◌≡◌, ◌≢◌, ⊎_elim, ℕ, Bool, true, false, ◌&&◌, ◌||◌, List, [], ◌∷◌, Some, None, is_some, refl, sym, ◌∙◌, ap, subst, codes, cond}
-use Rattle.std.specs.Prelude.{filter}
+use Rattle.std.specs.Prelude.{filter, nat_le, IfOk, Result, Ok, Err}
+use Rattle.std.specs.Cmp.{nat_cmp_total}
+use Rattle.std.specs.List.Sorted.{IsStrictlySortedBy}
+use Rattle.std.proofs.lemmas.Map.Lookups.{exact_unsigned}
+use Rattle.std.proofs.lemmas.Map.Views.{btree_set_contains_iff}
 use Rattle.std.specs.List.{list_any}
 use Rattle.std.specs.BTreeSet.{contains}
 use Rattle.std.specs.Ordering.{nat_cmp, eq_by_cmp}
@@ -12,7 +16,9 @@ use Rattle.mx_base.specs.declared.object_name.ObjectName.TheVariants.{Config}
 use Rattle.mx_props.specs.Config.{config_text}
 use Rattle.mx_store.specs.Objects.{Objects, at_path, paths_with}
 use Rattle.mx_store.proofs.Paths.{cases_path, path_same, path_other}
+use Rattle.mx_folder.specs.Completed.{completed_upto}
 use Rattle.mx_folder.specs.Named.{object_at, commit_name, is_hidden}
+use Rattle.mx_folder.proofs.CompletedLemmas.{completed_sorted}
 use Rattle.mx_folder.proofs.PendingLemmas.{hidden_object}
 use Rattle.mx_mirror.specs.declared.mirror.Mirror.{Mirror}
 use Rattle.mx_mirror.specs.Mirror.{IsMirrorOf, is_commit_at, is_name_at}
@@ -104,3 +110,13 @@ module _ (o : Objects) where
     names = λ q. names q ∙ ap (λ (ps : List (List ℕ)). list_any (λ path. is_name_at path q) ps) all ∙ names_listed q;
     completed = λ at. completed at ∙ ap (λ (ps : List (List ℕ)). list_any (λ path. is_commit_at path at) ps) all ∙ commits_listed at;
   }
+
+-- ---- the completed commits
+
+pub upto_completed : {E : Type 0} (m : Mirror) (at : ℕ) (r : Result (List ℕ) E) → IfOk r (λ instants. instants ≡ filter (λ t. nat_le t at) m.completed.keys) → IfOk r (λ instants. IsStrictlySortedBy nat_cmp m.completed.keys)
+    → IfOk r (λ instants. (o : Objects) → IsMirrorOf o m → instants ≡ completed_upto o at)
+upto_completed m at (Err e) is sorted = tt
+upto_completed m at (Ok instants) is sorted = λ o mirror. is ∙ completed_sorted o m.completed.keys sorted
+    (λ t among. sym (mirror.completed t) ∙ (btree_set_contains_iff nat_cmp_total exact_unsigned m.completed t).1 among)
+    (λ t done. (btree_set_contains_iff nat_cmp_total exact_unsigned m.completed t).0 (mirror.completed t ∙ done))
+    at

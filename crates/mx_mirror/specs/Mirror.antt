@@ -1,5 +1,5 @@
 -- What is known of a folder without its bytes.
-use Rattle.std.specs.Prelude.{◌≡◌, ◌≢◌, ℕ, ◌&&◌, Bool, false, List, Some, is_some}
+use Rattle.std.specs.Prelude.{◌≡◌, ◌≢◌, ℕ, ◌≤◌, ◌&&◌, Bool, false, List, Some, is_some}
 use Rattle.std.specs.Option.{option_map_or}
 use Rattle.std.specs.BTreeSet.{contains}
 use Rattle.std.specs.FinMap as finmap
@@ -12,6 +12,7 @@ use Rattle.mx_store.specs.declared.change.Change.{Change}
 use Rattle.mx_store.specs.declared.change.Change.TheVariants.{Create, Put, Delete}
 use Rattle.mx_store.specs.Objects.{Objects, at_path}
 use Rattle.mx_props.specs.Config.{config_text}
+use Rattle.mx_folder.specs.Actions.{IsCompleted}
 use Rattle.mx_folder.specs.Named.{object_at, commit_name, is_hidden}
 use Rattle.mx_mirror.specs.declared.mirror.Mirror.{Mirror}
 
@@ -20,6 +21,11 @@ pub record IsMirrorOf (objects : Objects) (mirror : Mirror) : Type 0 where
   pub config : at_path objects (object_path Config) ≡ Some (config_text mirror.config)
   pub names : (path : List ℕ) → contains (slice_cmp nat_cmp) mirror.names path ≡ (is_hidden path && is_some (at_path objects path))
   pub completed : (at : ℕ) → contains nat_cmp mirror.completed at ≡ is_some (object_at objects (commit_name at))
+
+-- the greatest instant of a completed commit, 0 where there is none
+pub record IsNewest (objects : Objects) (at : ℕ) : Type 0 where
+  pub counts : at ≢ 0 → IsCompleted objects at
+  pub above : (other : ℕ) → IsCompleted objects other → other ≤ at
 
 -- the path is the one of the commit of the instant
 abbrev pub is_commit_at : List ℕ → ℕ → Bool

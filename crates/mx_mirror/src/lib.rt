@@ -11,6 +11,7 @@
 //! | call | contract |
 //! |---|---|
 //! | `Mirror::of` | the mirror of the folder that has a config and these names |
+//! | `Mirror::completed_upto`, `newest` | the completed commits up to an instant, in their order; the newest one |
 //! | `Mirrored::over` | a store with the mirror of what it holds |
 //! | `Mirrored::change` | makes one change, of which the caller shows that it may be made (`MayMake`); where the store fails it is in doubt, and no other is made |
 //! | `Mirrored::change_in_turn` | makes changes one after the other, up to the first one that is not made (`specs/Turns.antt`) |

@@ -1,4 +1,4 @@
-ghost use Rattle.std.specs.Prelude.{◌≡◌, ◌↔◌, ◌&&◌, ◌||◌, ℕ, List, Bool, IsTrue, OnOk, OnErr, IfOk, Some, None, not, is_some, codes, nat_eq};
+ghost use Rattle.std.specs.Prelude.{◌≡◌, ◌↔◌, ◌&&◌, ◌||◌, ℕ, List, Bool, IsTrue, OnOk, OnErr, IfOk, Some, None, not, is_some, codes, nat_eq, ◌≢◌, ◌≤◌, ◌++◌, ◌∷◌, [], filter, nat_le};
 ghost use Rattle.std.specs.BTreeSet.{contains};
 ghost use Rattle.std.specs.List.{starts_with, list_any};
 ghost use Rattle.std.specs.Ordering.{nat_cmp, eq_by_cmp};
@@ -10,10 +10,13 @@ ghost use Rattle.mx_props.specs.Config.{config_text};
 ghost use Rattle.mx_store.specs.Journal.{IsAllowed};
 ghost use Rattle.mx_store.specs.Objects.{Objects, apply, at_path, paths_with};
 ghost use Rattle.mx_folder.specs.Named.{is_hidden};
+ghost use Rattle.std.specs.List.Sorted.{IsStrictlySortedBy};
 ghost use Rattle.mx_folder.specs.Actions.{IsCompleted};
-ghost use Rattle.mx_mirror.specs.Mirror.{IsMirrorOf, IsNoConfig, IsPlain, IsReadyFor, is_commit_at, is_name_at};
+ghost use Rattle.mx_folder.specs.Completed.{completed_upto};
+ghost use Rattle.mx_mirror.specs.Mirror.{IsMirrorOf, IsNewest, IsNoConfig, IsPlain, IsReadyFor, is_commit_at, is_name_at};
 
 use mx_base::{Instant, Path};
+use mx_lists::Listed;
 use mx_props::Props;
 use mx_store::Change;
 use std::alloc::{AllocError, Global};
@@ -60,6 +63,20 @@ impl Mirror {
         ensures { (objects : Objects) → IsMirrorOf objects self.now → IsTrue result ↔ IsCompleted objects at }
     {
         self.completed.contains(&at)
+    }
+
+    /// The completed commits at most at an instant, by rising instant.
+    pub fn completed_upto(&self, alloc: Global, at: Instant) -> Result<Listed<Instant>, AllocError>
+        ensures { IfOk result (λ instants. (objects : Objects) → IsMirrorOf objects self.now → instants ≡ completed_upto objects at) }
+    {
+        instants_upto(alloc, &self.completed, at)
+    }
+
+    /// The newest completed commit, and 0 where there is none.
+    pub fn newest(&self) -> Instant
+        ensures { (objects : Objects) → IsMirrorOf objects self.now → IsNewest objects result }
+    {
+        last_of(&self.completed)
     }
 
     /// Makes ready for a change: what it makes is noted here, before the store is asked, and what it takes away stays. Where
@@ -115,6 +132,54 @@ impl Mirror {
     {
         remove_commit(&mut self.completed, path);
         self.names.remove(path);
+    }
+}
+
+fn instants_upto(
+    alloc: Global,
+    completed: &BTreeSet<Instant>,
+    at: Instant,
+) -> Result<Listed<Instant>, AllocError>
+    ensures instants { IfOk result (λ instants. instants ≡ filter (λ t. nat_le t at) completed.now.keys) }
+    ensures rising { IfOk result (λ instants. IsStrictlySortedBy nat_cmp completed.now.keys) }
+{
+    let mut instants = Listed::new(alloc);
+    for instant in completed.iter() {
+        push_upto(&mut instants, *instant, at)?;
+    }
+    Ok(instants)
+}
+
+fn push_upto(
+    instants: &mut Listed<Instant>,
+    instant: Instant,
+    at: Instant,
+) -> Result<(), AllocError>
+    ensures { OnOk result (instants.new ≡ instants.old ++ filter (λ t. nat_le t at) (instant ∷ [])) }
+{
+    if instant <= at {
+        instants.push(instant)?;
+    }
+    Ok(())
+}
+
+// The greatest of the instants, 0 where there is none.
+fn last_of(completed: &BTreeSet<Instant>) -> Instant
+    ensures holds { result ≢ 0 → IsTrue (contains nat_cmp completed.now result) }
+    ensures above { (at : ℕ) → IsTrue (contains nat_cmp completed.now at) → at ≤ result }
+{
+    match completed.last() {
+        Some(at) => *at,
+        None => no_instant(),
+    }
+}
+
+fn no_instant() -> Instant
+    ensures { result ≡ 0 }
+{
+    match Instant::new(0) {
+        Some(at) => at,
+        None => unreachable!(),
     }
 }
 

@@ -1,0 +1,179 @@
+ghost use Rattle.std.specs.Prelude.{◌≡◌, None};
+
+use crate::files;
+use mx_ask::Reply;
+use mx_base::{Instant, Part, Partition, Path};
+use mx_lists::{Bytes, Listed};
+use mx_mirror::{Mirror, Mirrored};
+use mx_props::Props;
+use mx_schema::Schema;
+use mx_store::{MemStore, Store, StoreError};
+use std::alloc::Global;
+use std::marker::Brand;
+use std::test::Fail;
+
+// A store in memory that tells nothing, as one over a disk does.
+#[derive(Drop)]
+struct Quiet {
+    inner: MemStore,
+}
+
+impl Store for Quiet {
+    ghost journal = { λ s. None };
+
+    ghost reads = { λ s. None };
+
+    ghost faults = { λ s. s.inner.faults };
+
+    fn list(&mut self, alloc: Global, prefix: &str) -> Result<Listed<Path>, StoreError> {
+        self.inner.list(alloc, prefix)
+    }
+
+    fn get(&mut self, alloc: Global, path: &Path) -> Result<Option<Bytes>, StoreError> {
+        self.inner.get(alloc, path)
+    }
+
+    fn get_range(
+        &mut self,
+        alloc: Global,
+        path: &Path,
+        at: u64,
+        len: u64,
+    ) -> Result<Option<Bytes>, StoreError> {
+        self.inner.get_range(alloc, path, at, len)
+    }
+
+    fn create(&mut self, alloc: Global, path: &Path, bytes: &[u8]) -> Result<bool, StoreError> {
+        self.inner.create(alloc, path, bytes)
+    }
+
+    fn put(&mut self, alloc: Global, path: &Path, bytes: &[u8]) -> Result<(), StoreError> {
+        self.inner.put(alloc, path, bytes)
+    }
+
+    fn delete(&mut self, alloc: Global, path: &Path) -> Result<bool, StoreError> {
+        self.inner.delete(alloc, path)
+    }
+}
+
+const FIRST: u64 = 20_250_101_000_000_000;
+
+// The logs of two completed commits and of a pending one, and what completes the two.
+const OBJECTS: [(&str, &str); 5] = [
+    (
+        ".hoodie/metadata/files/files-0000_20250101000000000.log",
+        "{\"added\":[{\"name\":\"11111111-1111-4111-8111-111111111111_0-0-0_20250101000000000.parquet\",\"partition\":\"2024-01-01\",\"size\":5}]}",
+    ),
+    (".hoodie/20250101000000000.commit", "{}"),
+    (
+        ".hoodie/metadata/files/files-0000_20250101000000001.log",
+        "{\"added\":[{\"name\":\"22222222-2222-4222-8222-222222222222_0-0-0_20250101000000001.parquet\",\"partition\":\"2024-01-01\",\"size\":1}]}",
+    ),
+    (".hoodie/20250101000000001.commit", "{}"),
+    (
+        ".hoodie/metadata/files/files-0000_20250101000000002.log",
+        "{\"added\":[{\"name\":\"33333333-3333-4333-8333-333333333333_0-0-0_20250101000000002.parquet\",\"partition\":\"2024-01-01\",\"size\":9}]}",
+    ),
+];
+
+fn config(alloc: Global) -> Result<Props, Fail> {
+    let available = Listed::from_vec(vec![in alloc; Part::Files]?);
+    let Ok(schema) = Schema::parse(alloc, "a:int64") else {
+        return Err(Fail::new("the schema is one"));
+    };
+    match Props::new(available, None, schema) {
+        Some(config) => Ok(config),
+        None => Err(Fail::new("the config is one")),
+    }
+}
+
+fn instant(number: u64) -> Result<Instant, Fail> {
+    match Instant::new(number) {
+        Some(at) => Ok(at),
+        None => Err(Fail::new("the number is an instant")),
+    }
+}
+
+// A table of the first so many objects, whose store's call of this number behind their creates fails.
+fn table(alloc: Global, count: usize, failing: u64) -> Result<Mirrored<Quiet, Brand>, Fail> {
+    let mut inner = MemStore::empty(alloc);
+    let mut paths = Listed::new(alloc);
+    for (path, text) in OBJECTS.iter().take(count) {
+        let path = Path::parse(alloc, path)?;
+        inner.create(alloc, &path, text.as_bytes())?;
+        paths.push(path)?;
+    }
+    inner.fail(count as u64 + failing, false)?;
+    let mirror = Mirror::of(alloc, config(alloc)?, paths.as_slice())?;
+    Ok(Mirrored::over(Quiet { inner }, mirror, instant(FIRST + 2)?, 0))
+}
+
+// The instant that was looked up, and the sizes that were found in the order of their names; 9 stands for a failed look-up.
+fn sizes_at(
+    alloc: Global,
+    table: &mut Mirrored<Quiet, Brand>,
+    partition: &str,
+    asked: Option<Instant>,
+) -> Result<(u64, u64, u64), Fail> {
+    let partition = Partition::parse(alloc, partition)?;
+    match files(alloc, table, &partition, asked) {
+        Ok(Reply::Files { at, files }) => Ok(match files.as_slice() {
+            [] => (at.number(), 0, 0),
+            [one] => (at.number(), one.size, 0),
+            [one, other] => (at.number(), one.size, other.size),
+            _ => (at.number(), 8, 8),
+        }),
+        Ok(_) => Ok((0, 7, 7)),
+        Err(_) => Ok((0, 9, 9)),
+    }
+}
+
+fn looked_up(
+    alloc: Global,
+    count: usize,
+    partition: &str,
+    asked: Option<u64>,
+    failing: u64,
+) -> Result<(u64, u64, u64), Fail> {
+    let asked = match asked {
+        Some(number) => Some(instant(number)?),
+        None => None,
+    };
+    let mut table = table(alloc, count, failing)?;
+    sizes_at(alloc, &mut table, partition, asked)
+}
+
+#[test]
+fn a_look_up_shows_the_completed_commits_up_to_its_instant(rt: HostRuntime) -> Result<(), Fail> {
+    let alloc = rt.alloc();
+    const NEXT: u64 = FIRST + 1;
+    // how many objects stand, the partition, the instant that is asked for, and what is found
+    const CASES: [(usize, &str, Option<u64>, (u64, u64, u64)); 9] = [
+        (0, "2024-01-01", None, (0, 0, 0)),
+        (1, "2024-01-01", None, (0, 0, 0)),
+        (2, "2024-01-01", None, (FIRST, 5, 0)),
+        (3, "2024-01-01", None, (FIRST, 5, 0)),
+        (5, "2024-01-01", None, (NEXT, 5, 1)),
+        (5, "2024-01-01", Some(FIRST), (FIRST, 5, 0)),
+        (5, "2024-01-01", Some(FIRST - 1), (FIRST - 1, 0, 0)),
+        (5, "2024-01-01", Some(FIRST + 7), (FIRST + 7, 5, 1)),
+        (5, "2024-01-02", None, (NEXT, 0, 0)),
+    ];
+    for (count, partition, asked, expected) in CASES {
+        let (at, one, other) = looked_up(alloc, count, partition, asked, 100)?;
+        let (wanted, first, second) = expected;
+        assert!(rt; at == wanted && one == first && other == second);
+    }
+    Ok(())
+}
+
+#[test]
+fn a_look_up_fails_where_a_read_fails(rt: HostRuntime) -> Result<(), Fail> {
+    let alloc = rt.alloc();
+    for failing in 0..3_u64 {
+        let (at, one, other) = looked_up(alloc, 5, "2024-01-01", None, failing)?;
+        let fails = at == 0 && one == 9 && other == 9;
+        assert!(rt; fails == (failing < 2));
+    }
+    Ok(())
+}

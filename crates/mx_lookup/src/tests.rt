@@ -1,7 +1,7 @@
-ghost use Rattle.std.specs.Prelude.{◌≡◌, None};
+ghost use Rattle.std.specs.Prelude.{◌≡◌, IfOk, None};
 
 use crate::files;
-use mx_ask::Reply;
+use mx_ask::{FileSize, Reply};
 use mx_base::{Instant, Part, Partition, Path};
 use mx_lists::{Bytes, Listed};
 use mx_mirror::{Mirror, Mirrored};
@@ -95,7 +95,9 @@ fn instant(number: u64) -> Result<Instant, Fail> {
 }
 
 // A table of the first so many objects, whose store's call of this number behind their creates fails.
-fn table(alloc: Global, count: usize, failing: u64) -> Result<Mirrored<Quiet, Brand>, Fail> {
+fn table(alloc: Global, count: usize, failing: u64) -> Result<Mirrored<Quiet, Brand>, Fail>
+    ensures sure { IfOk result (λ table. table.doubt ≡ None) }
+{
     let mut inner = MemStore::empty(alloc);
     let mut paths = Listed::new(alloc);
     for (path, text) in OBJECTS.iter().take(count) {
@@ -103,7 +105,7 @@ fn table(alloc: Global, count: usize, failing: u64) -> Result<Mirrored<Quiet, Br
         inner.create(alloc, &path, text.as_bytes())?;
         paths.push(path)?;
     }
-    inner.fail(count as u64 + failing, false)?;
+    inner.fail((count as u64).saturating_add(failing), false)?;
     let mirror = Mirror::of(alloc, config(alloc)?, paths.as_slice())?;
     Ok(Mirrored::over(Quiet { inner }, mirror, instant(FIRST + 2)?, 0))
 }
@@ -114,17 +116,29 @@ fn sizes_at(
     table: &mut Mirrored<Quiet, Brand>,
     partition: &str,
     asked: Option<Instant>,
-) -> Result<(u64, u64, u64), Fail> {
+) -> Result<(u64, u64, u64), Fail>
+    requires sure { table.old.doubt ≡ None }
+{
     let partition = Partition::parse(alloc, partition)?;
     match files(alloc, table, &partition, asked) {
-        Ok(Reply::Files { at, files }) => Ok(match files.as_slice() {
-            [] => (at.number(), 0, 0),
-            [one] => (at.number(), one.size, 0),
-            [one, other] => (at.number(), one.size, other.size),
-            _ => (at.number(), 8, 8),
-        }),
-        Ok(_) => Ok((0, 7, 7)),
+        Ok(reply) => Ok(seen(&reply)),
         Err(_) => Ok((0, 9, 9)),
+    }
+}
+
+fn seen(reply: &Reply) -> (u64, u64, u64) {
+    match reply {
+        Reply::Files { at, files } => seen_sizes(*at, files.as_slice()),
+        _ => (0, 7, 7),
+    }
+}
+
+fn seen_sizes(at: Instant, files: &[FileSize]) -> (u64, u64, u64) {
+    match files {
+        [] => (at.number(), 0, 0),
+        [one] => (at.number(), one.size, 0),
+        [one, other] => (at.number(), one.size, other.size),
+        _ => (at.number(), 8, 8),
     }
 }
 

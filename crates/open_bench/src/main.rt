@@ -44,7 +44,7 @@ fn main(rt: HostRuntime) -> io::Result<()> {
         bytes: 0,
     };
     for _ in 0..rounds {
-        let (left, round) = round(alloc, store, reads)?;
+        let (left, round) = make_round(alloc, store, reads)?;
         store = left;
         last = round;
     }
@@ -116,7 +116,7 @@ fn filled(alloc: Global, store: MemStore, commits: u32) -> io::Result<MemStore> 
     Ok(table.into_store())
 }
 
-fn round(alloc: Global, store: MemStore, reads: bool) -> io::Result<(MemStore, Round)> {
+fn make_round(alloc: Global, store: MemStore, reads: bool) -> io::Result<(MemStore, Round)> {
     if reads {
         return read(alloc, store);
     }

@@ -6,3 +6,7 @@ pub mod Files
 pub mod Writable
 pub mod Again
 pub mod FileAgain
+mod OfKind
+mod InTurn
+mod ChunkTurns
+mod Texts

@@ -5,3 +5,5 @@ pub mod Encoding
 pub mod Fits
 pub mod Seen
 pub mod Decoding
+pub mod Reading
+pub mod Footer

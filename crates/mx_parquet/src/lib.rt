@@ -23,10 +23,15 @@
 #![tactic(auto)]
 
 mod column;
+mod elements;
+mod error;
+mod fields;
 mod file_size;
 mod fitting;
 mod footer;
+mod groups;
 mod law;
+mod layout;
 mod page;
 mod page_size;
 mod row;

@@ -7,6 +7,8 @@ pub mod Writable
 pub mod Again
 pub mod FileAgain
 mod OfKind
+mod Said
+mod ElementsSay
 mod InTurn
 mod ChunkTurns
 mod Texts

@@ -7,3 +7,4 @@ pub mod Seen
 pub mod Decoding
 pub mod Reading
 pub mod Footer
+pub mod Opening

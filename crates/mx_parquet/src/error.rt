@@ -68,3 +68,18 @@ impl From<Flaw> for Failure {
         Failure::Flawed { flaw }
     }
 }
+
+impl Failure {
+    /// The same failure, of the struct that begins at a place.
+    pub(crate) fn at(self, at: usize) -> ParquetError
+        ensures { result ≡ placed_failure at self }
+    {
+        match self {
+            Failure::NoMemory => ParquetError::NoMemory,
+            Failure::Flawed { flaw: Flaw::Bad } => ParquetError::BadParquet { at },
+            Failure::Flawed {
+                flaw: Flaw::Unsupported { what },
+            } => ParquetError::Unsupported { what },
+        }
+    }
+}

@@ -47,4 +47,6 @@ pub use row::FullRow;
 pub use writing::{size_rows, write_rows};
 
 #[cfg(test)]
+mod opening_tests;
+#[cfg(test)]
 mod tests;

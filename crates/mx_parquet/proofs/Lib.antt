@@ -9,6 +9,8 @@ pub mod FileAgain
 mod OfKind
 mod Said
 mod ElementsSay
+mod LayoutsSay
+mod GroupsSay
 mod InTurn
 mod ChunkTurns
 mod Texts

@@ -62,7 +62,7 @@ pub struct_is : (v : Value) (fields : Struct) → as_struct v ≡ Ok fields → 
 unfolding as_struct
 struct_is v fields e = rolled v (values.Struct fields) (struct_of (out-Value v) fields e)
 
-passed : {A : Type 0} (b : Bool) (x y : A) → cond b (good x) bad ≡ Ok y → (b ≡ true) × (x ≡ y)
+pub passed : {A : Type 0} (b : Bool) (x y : A) → cond b (good x) bad ≡ Ok y → (b ≡ true) × (x ≡ y)
 passed true x y e = (refl, ok_is x y e)
 passed false x y e = absurd cc
 

@@ -8,3 +8,4 @@ pub mod Decoding
 pub mod Reading
 pub mod Footer
 pub mod Opening
+pub mod Held

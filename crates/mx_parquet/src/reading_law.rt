@@ -1,11 +1,26 @@
-ghost use Rattle.std.specs.Prelude.{◌≡◌, ◌↔◌, Ok};
+ghost use Rattle.std.specs.Prelude.{◌≡◌, ◌≤◌, ◌↔◌, ℕ, List, Ok, length};
+ghost use Rattle.std.specs.List.{AllByRecursion};
 ghost use Rattle.std.specs.Str.{IsUtf8};
 ghost use Rattle.mx_schema.specs.declared.column.Column.{Column};
+ghost use Rattle.mx_parquet.specs.declared.row.FullRow.{FullRow as Row};
+ghost use Rattle.mx_parquet.specs.declared.layout.Layout.{Layout as AnyLayout};
+ghost use Rattle.mx_parquet.specs.Columns.{columns_of};
 ghost use Rattle.mx_parquet.specs.Shape.{Struct};
-ghost use Rattle.mx_parquet.specs.Decoding.{IsElement};
-ghost use Rattle.mx_parquet.specs.Footer.{element_in};
+ghost use Rattle.mx_parquet.specs.Decoding.{IsElement, IsFooter};
+ghost use Rattle.mx_parquet.specs.Held.{IsLaidOut};
+ghost use Rattle.mx_parquet.specs.Footer.{element_in, layout_in};
 
 /// What is read of an element is the column that it is an element of.
 pub(crate) fn elements_are_read_as_their_columns()
     ensures { (column : Column) (fields : Struct) → IsUtf8 column.name → (element_in fields ≡ Ok column) ↔ IsElement column fields }
+{}
+
+/// A struct is a footer of a schema and rows where the chunks that are read of it hold the rows; and of each such
+/// footer they are read.
+pub(crate) fn footers_are_read_as_their_layouts()
+    ensures says { (file : List ℕ) (fields : Struct) (layout : AnyLayout) (schema : List Column) (rows : List Row)
+        → layout_in (length file) fields ≡ Ok layout → IsLaidOut file layout schema rows → IsFooter file fields schema rows }
+    ensures reads { (file : List ℕ) (fields : Struct) (schema : List Column) (rows : List Row)
+        → AllByRecursion (λ column. IsUtf8 column.name) (columns_of schema) → length rows ≤ 16_384 → IsFooter file fields schema rows
+        → (layout : AnyLayout) × (layout_in (length file) fields ≡ Ok layout) × IsLaidOut file layout schema rows }
 {}

@@ -1,0 +1,8 @@
+use Rattle.mx_parquet.proofs.GroupsSay.{layout_says, layout_reads}
+use Rattle.mx_parquet.proofs.reading_law.footers_are_read_as_their_layouts.Goals as goal
+
+pub returns-clause-says : goal.returns-clause-says
+returns-clause-says c = layout_says
+
+pub returns-clause-reads : goal.returns-clause-reads
+returns-clause-reads c = layout_reads

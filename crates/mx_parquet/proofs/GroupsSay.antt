@@ -1,5 +1,5 @@
 -- What a layout says of row groups is what a footer with such groups says.
-use Rattle.std.proofs.Common.{◌≡◌, ℕ, ◌+◌, ◌≤◌, ℤ, pos, Bool, true, false, cond, eqb, leb, List, [], ◌∷◌, ◌++◌, length, map, flat_map, sum, Option, Some, None, Result, Ok, Err, refl, sym, ap, subst, ◌∙◌, arith, length-append}
+use Rattle.std.proofs.Common.{◌≡◌, ℕ, ◌+◌, ◌≤◌, ℤ, pos, Bool, true, false, ◌&&◌, cond, eqb, leb, List, [], ◌∷◌, ◌++◌, length, map, flat_map, sum, Option, Some, None, Result, Ok, Err, refl, sym, ap, subst, ◌∙◌, arith, length-append}
 use Rattle.std.specs.List.{AllByRecursion, AllZip}
 use Rattle.std.specs.Str.{IsUtf8}
 use Rattle.std.proofs.lemmas.List.Sums.{sum-map, sum_by-cons}
@@ -168,6 +168,10 @@ rows_add file columns (g ∷ gs) (rows ∷ parts) holds =
     let all : length (flat_map (λ (part : List FullRow). part) (rows ∷ parts)) ≡ length rows + length (flat_map (λ (part : List FullRow). part) parts) = length-append rows (flat_map (λ (part : List FullRow). part) parts) in
     first ∙ ap (λ (n : ℕ). n + rows_in gs) (sym holds.0) ∙ ap (λ (n : ℕ). length rows + n) (rows_add file columns gs parts holds.2) ∙ sym all
 
+and_parts : (a b : Bool) → (a && b) ≡ true → (a ≡ true) × (b ≡ true)
+and_parts true b e = (refl, e)
+and_parts false b e = absurd cc
+
 abbrev made : List Column → ℕ → List Group → Layout
 made columns row_count groups = record { columns = columns; row_count = row_count; groups = groups }
 
@@ -224,3 +228,16 @@ layout_reads file fields schema rows utf8 few is =
       ) refl,
       record { columns = refl; counted = refl; parts = is.parts; each = groups.2; all = is.all },
     )
+
+pub layout_few : (len : ℕ) (fields : Struct) (layout : Layout) (count : ℕ) → layout_in len fields ≡ Ok layout → layout.row_count ≡ count → count ≤ 16_384
+unfolding layout_in
+layout_few len fields layout rows e is =
+    let version = bind_ok (int_in 1 fields) (λ version. columns_in fields >>= λ cs. long_in 3 fields >>= λ count. count_of count >>= λ n. list_in 12 4 fields >>= λ items. each_in (group_at len cs) items >>= λ gs. cond (has_rows n gs) (good (made cs n gs)) bad) layout e in
+    let columns = bind_ok (columns_in fields) (λ cs. long_in 3 fields >>= λ count. count_of count >>= λ n. list_in 12 4 fields >>= λ items. each_in (group_at len cs) items >>= λ gs. cond (has_rows n gs) (good (made cs n gs)) bad) layout version.2 in
+    let count = bind_ok (long_in 3 fields) (λ count. count_of count >>= λ n. list_in 12 4 fields >>= λ items. each_in (group_at len columns.0) items >>= λ gs. cond (has_rows n gs) (good (made columns.0 n gs)) bad) layout columns.2 in
+    let n = bind_ok (count_of count.0) (λ n. list_in 12 4 fields >>= λ items. each_in (group_at len columns.0) items >>= λ gs. cond (has_rows n gs) (good (made columns.0 n gs)) bad) layout count.2 in
+    let items = bind_ok (list_in 12 4 fields) (λ items. each_in (group_at len columns.0) items >>= λ gs. cond (has_rows n.0 gs) (good (made columns.0 n.0 gs)) bad) layout n.2 in
+    let gs = bind_ok (each_in (group_at len columns.0) items.0) (λ gs. cond (has_rows n.0 gs) (good (made columns.0 n.0 gs)) bad) layout items.2 in
+    let last = passed (has_rows n.0 gs.0) (made columns.0 n.0 gs.0) layout gs.2 in
+    let few = and_parts (leb n.0 16_384) (eqb (rows_in gs.0) n.0) last.0 in
+    omega (arith, leb-true n.0 16_384 few.0, ap (λ (l : Layout). l.row_count) last.1, is)

@@ -11,6 +11,7 @@ mod Said
 mod ElementsSay
 mod LayoutsSay
 mod GroupsSay
+mod OpeningSays
 mod InTurn
 mod ChunkTurns
 mod Texts

@@ -1,5 +1,5 @@
 -- What the chunks hold that a footer names.
-use Rattle.std.specs.Prelude.{◌≡◌, ℕ, List, [], ◌∷◌, length, take, drop, flat_map}
+use Rattle.std.specs.Prelude.{◌≡◌, ℕ, List, [], ◌∷◌, length, take, drop, flat_map, slice_index, ◌<◌}
 use Rattle.mx_schema.specs.declared.cell.Cell.{Cell}
 use Rattle.mx_schema.specs.declared.column.Column.{Column}
 use Rattle.mx_parquet.specs.declared.row.FullRow.{FullRow}
@@ -8,6 +8,10 @@ use Rattle.mx_parquet.specs.declared.layout.Group.{Group}
 use Rattle.mx_parquet.specs.declared.layout.Layout.{Layout}
 use Rattle.mx_parquet.specs.Columns.{columns_of}
 use Rattle.mx_parquet.specs.Decoding.{ArePages, table_of}
+
+-- numbers that are bytes
+abbrev pub IsBytes : List ℕ → Type 0
+IsBytes bytes = (i : ℕ) → slice_index bytes i < 256
 
 -- the bytes of a chunk
 abbrev pub chunk_bytes : List ℕ → ChunkPlace → List ℕ

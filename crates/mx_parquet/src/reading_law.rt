@@ -6,8 +6,10 @@ ghost use Rattle.mx_parquet.specs.declared.row.FullRow.{FullRow as Row};
 ghost use Rattle.mx_parquet.specs.declared.layout.Layout.{Layout as AnyLayout};
 ghost use Rattle.mx_parquet.specs.Columns.{columns_of};
 ghost use Rattle.mx_parquet.specs.Shape.{Struct};
-ghost use Rattle.mx_parquet.specs.Decoding.{IsElement, IsFooter};
-ghost use Rattle.mx_parquet.specs.Held.{IsLaidOut};
+ghost use Rattle.mx_schema.specs.Columns.{IsSchema};
+ghost use Rattle.mx_parquet.specs.Opening.{file_layout};
+ghost use Rattle.mx_parquet.specs.Decoding.{IsElement, IsFooter, IsFullRow, Decodes};
+ghost use Rattle.mx_parquet.specs.Held.{IsBytes, IsLaidOut};
 ghost use Rattle.mx_parquet.specs.Footer.{element_in, layout_in};
 
 /// What is read of an element is the column that it is an element of.
@@ -23,4 +25,15 @@ pub(crate) fn footers_are_read_as_their_layouts()
     ensures reads { (file : List ℕ) (fields : Struct) (schema : List Column) (rows : List Row)
         → AllByRecursion (λ column. IsUtf8 column.name) (columns_of schema) → length rows ≤ 16_384 → IsFooter file fields schema rows
         → (layout : AnyLayout) × (layout_in (length file) fields ≡ Ok layout) × IsLaidOut file layout schema rows }
+{}
+
+/// A file stands for a schema and rows where the chunks that its footer names hold the rows; and of each such file they
+/// are found so.
+pub(crate) fn files_are_read_as_their_layouts()
+    ensures says { (file : List ℕ) (layout : AnyLayout) (schema : List Column) (rows : List Row) → IsBytes file
+        → file_layout file ≡ Ok layout → IsLaidOut file layout schema rows → IsSchema schema → AllByRecursion (IsFullRow schema) rows
+        → Decodes file schema rows }
+    ensures reads { (file : List ℕ) (schema : List Column) (rows : List Row)
+        → AllByRecursion (λ column. IsUtf8 column.name) (columns_of schema) → Decodes file schema rows
+        → (layout : AnyLayout) × (file_layout file ≡ Ok layout) × IsLaidOut file layout schema rows }
 {}

@@ -1,9 +1,9 @@
 -- What a layout says of row groups is what a footer with such groups says.
-use Rattle.std.proofs.Common.{◌≡◌, ℕ, ◌+◌, ◌≤◌, ℤ, pos, Bool, true, false, ◌&&◌, cond, eqb, leb, List, [], ◌∷◌, ◌++◌, length, map, flat_map, sum, Option, Some, None, Result, Ok, Err, refl, sym, ap, subst, ◌∙◌, arith, length-append}
-use Rattle.std.specs.List.{AllByRecursion, AllZip}
+use Rattle.std.proofs.Common.{◌≡◌, ℕ, ◌+◌, ◌≤◌, ℤ, pos, Bool, true, false, ◌&&◌, cond, eqb, leb, List, [], ◌∷◌, length, map, flat_map, Ok, refl, sym, ap, subst, ◌∙◌, arith, length-append}
+use Rattle.std.specs.List.{AllByRecursion}
 use Rattle.std.specs.Str.{IsUtf8}
 use Rattle.std.proofs.lemmas.List.Sums.{sum-map, sum_by-cons}
-use Rattle.std.proofs.lemmas.Bool.{eqb-true, eq-eqb, leb-true, le-leb}
+use Rattle.std.proofs.lemmas.Bool.{eq-eqb, leb-true, le-leb}
 use Rattle.mx_thrift.specs.declared.value.Value.{Value}
 use Rattle.mx_thrift.specs.declared.value.Value.TheVariants as values
 use Rattle.mx_schema.specs.declared.cell.Cell.{Cell}
@@ -13,10 +13,10 @@ use Rattle.mx_parquet.specs.declared.layout.ChunkPlace.{ChunkPlace}
 use Rattle.mx_parquet.specs.declared.layout.Group.{Group}
 use Rattle.mx_parquet.specs.declared.layout.Layout.{Layout}
 use Rattle.mx_parquet.specs.Columns.{columns_of}
-use Rattle.mx_parquet.specs.Decoding.{Has, IsChunk, AreChunks, ArePages, IsGroup, AreGroups, IsFooter, table_of}
+use Rattle.mx_parquet.specs.Decoding.{IsChunk, AreChunks, ArePages, IsGroup, AreGroups, IsFooter, table_of}
 use Rattle.mx_parquet.specs.Shape.{Struct}
 use Rattle.mx_parquet.specs.Held.{chunk_bytes, HoldCells, HoldRows, IsLaidOut}
-use Rattle.mx_parquet.specs.Reading.{Read, ◌>>=◌, bad, as_struct, int_in, long_in, list_in, count_of, each_in}
+use Rattle.mx_parquet.specs.Reading.{◌>>=◌, bad, as_struct, int_in, long_in, list_in, count_of, each_in}
 use Rattle.mx_parquet.specs.Footer.{columns_in, chunk_at, chunks_in, group_at, rows_in, has_rows, layout_in}
 use Rattle.mx_parquet.proofs.OfKind.{is_struct}
 use Rattle.mx_parquet.proofs.Said.{bind_ok, good, ok_is, struct_is, says_int, reads_int, says_long, reads_long, says_list, reads_list, count_is, passed}

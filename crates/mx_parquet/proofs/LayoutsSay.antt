@@ -1,5 +1,5 @@
 -- What a layout says is what a footer of such chunks says.
-use Rattle.std.proofs.Common.{◌≡◌, ℕ, ◌+◌, ◌<◌, ◌≤◌, ℤ, pos, Bool, true, false, cond, eqb, leb, List, [], ◌∷◌, ◌++◌, length, map, take, drop, Option, Some, None, Result, Ok, Err, refl, sym, ap, subst, ◌∙◌, arith}
+use Rattle.std.proofs.Common.{◌≡◌, ℕ, ◌+◌, ◌≤◌, ℤ, pos, Bool, true, false, cond, eqb, leb, List, [], ◌∷◌, length, map, Ok, refl, sym, ap, subst, ◌∙◌, arith}
 use Rattle.std.specs.List.{AllByRecursion, AllZip}
 use Rattle.std.specs.Str.{IsUtf8}
 use lib.Pointwise.{pointwise}
@@ -13,16 +13,14 @@ use Rattle.mx_schema.specs.declared.column.Column.{Column}
 use Rattle.mx_schema.specs.declared.column.ColumnKind.{ColumnKind}
 use Rattle.mx_parquet.specs.declared.error.Feature.TheVariants as features
 use Rattle.mx_parquet.specs.declared.layout.ChunkPlace.{ChunkPlace}
-use Rattle.mx_parquet.specs.declared.layout.Group.{Group}
-use Rattle.mx_parquet.specs.declared.layout.Layout.{Layout}
-use Rattle.mx_parquet.specs.Decoding.{Has, HasNo, IsElement, IsRoot, IsChunk, AreChunks, ArePages, values_of, is_id}
+use Rattle.mx_parquet.specs.Decoding.{Has, HasNo, IsElement, IsRoot, IsChunk, ArePages, values_of, is_id}
 use Rattle.mx_parquet.specs.Shape.{Struct, type_code}
-use Rattle.mx_parquet.specs.Held.{chunk_bytes, HoldCells}
+use Rattle.mx_parquet.specs.Held.{chunk_bytes}
 use Rattle.mx_parquet.specs.Reading.{Read, ◌>>=◌, bad, unsupported, as_struct, as_bytes, int_in, long_in, bytes_in, struct_in, list_in, is_missing, count_of, each_in}
-use Rattle.mx_parquet.specs.Footer.{element_in, element_at, root_at, columns_below, columns_in, kind_of, typed, named, uncompressed, counted, placed, data_in, chunk_at, chunks_in}
+use Rattle.mx_parquet.specs.Footer.{element_in, element_at, root_at, columns_below, columns_in, kind_of, typed, named, uncompressed, counted, placed, data_in, chunk_at}
 use Rattle.mx_parquet.proofs.OfKind.{is_struct, is_bytes}
 use Rattle.mx_parquet.proofs.Said.{bind_ok, good, ok_is, struct_is, bytes_is, says_int, reads_int, says_long, reads_long, says_bytes, reads_bytes, says_struct, reads_struct, says_list, reads_list, is_id_is, is_id_same, count_is, missing_is, passed}
-use Rattle.mx_parquet.proofs.ElementsSay.{element_says, element_reads, kind_is, kind_reads}
+use Rattle.mx_parquet.proofs.ElementsSay.{element_says, element_reads, kind_reads}
 
 -- ---- elements
 

@@ -12,6 +12,7 @@ mod ElementsSay
 mod LayoutsSay
 mod GroupsSay
 mod OpeningSays
+mod ColumnNames
 mod InTurn
 mod ChunkTurns
 mod Texts

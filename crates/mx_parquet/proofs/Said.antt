@@ -1,14 +1,11 @@
 -- What was read of fields stands there, and what stands there is read.
-use Rattle.std.proofs.Common.{◌≡◌, ℕ, ℤ, pos, negsuc, Bool, true, false, eqb, cond, List, [], ◌∷◌, Option, Some, None, Result, Ok, Err, refl, sym, ap, subst, ◌∙◌}
+use Rattle.std.proofs.Common.{◌≡◌, ℕ, ℤ, pos, negsuc, Bool, true, false, eqb, cond, List, [], ◌∷◌, Option, Some, None, Ok, Err, refl, sym, ap, ◌∙◌}
 use Rattle.std.proofs.lemmas.Bool.{eqb-true, eq-eqb}
 use Rattle.mx_thrift.specs.declared.value.Value.{Value}
 use Rattle.mx_thrift.specs.declared.value.Value.TheViews.{roll-Value, out-Value, roll-out-Value}
 use Rattle.mx_thrift.specs.declared.value.Value.TheVariants as values
 use Rattle.mx_thrift.specs.declared.value.Value.TheVariants.{rolls-Int, rolls-Long, rolls-Bytes, rolls-List, rolls-Struct}
 use Rattle.mx_thrift.specs.declared.value.Value.TheOpen as layers
-use Rattle.mx_thrift.specs.declared.value.Field.{Field}
-use Rattle.mx_parquet.specs.declared.error.Flaw.{Flaw}
-use Rattle.mx_parquet.specs.declared.error.Flaw.TheVariants as flaws
 use Rattle.mx_parquet.specs.Decoding.{Has, HasNo, is_id, values_of}
 use Rattle.mx_parquet.specs.Shape.{Struct}
 use Rattle.mx_parquet.specs.Reading.{Read, ◌>>=◌, bad, Layer, int_layer, long_layer, bytes_layer, struct_layer, list_layer, as_int, as_long, as_bytes, as_struct, as_list, at_most_once, needed, int_if, int_in, maybe_int_in, long_in, bytes_in, struct_in, list_in, is_missing, count_of}

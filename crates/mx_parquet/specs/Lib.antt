@@ -9,3 +9,4 @@ pub mod Reading
 pub mod Footer
 pub mod Opening
 pub mod Held
+pub mod Found

@@ -2,11 +2,9 @@
 use Rattle.std.specs.Prelude.{◌≡◌, ℕ, ◌+◌, ◌-◌, ◌==◌, ◌||◌, nat_eq, nat_lt, nat_le, Bool, if◌then◌else◌, List, length, take, drop, Result, Ok, Err}
 use Rattle.std.specs.Int.{w32, from_le_bytes}
 use lib.Pointwise.{pointwise}
-use Rattle.mx_thrift.specs.declared.value.Field.{Field}
 use Rattle.mx_thrift.specs.declared.error.ThriftError.{ThriftError}
 use Rattle.mx_thrift.specs.declared.error.ThriftError.TheVariants as thrift
 use Rattle.mx_thrift.specs.Decoding.{struct_at}
-use Rattle.mx_parquet.specs.declared.error.Flaw.{Flaw}
 use Rattle.mx_parquet.specs.declared.error.ParquetError.{ParquetError}
 use Rattle.mx_parquet.specs.declared.error.ParquetError.TheVariants as errors
 use Rattle.mx_parquet.specs.declared.layout.Layout.{Layout}

@@ -4,7 +4,6 @@ ghost use Rattle.std.specs.Str.{IsUtf8};
 ghost use Rattle.mx_schema.specs.declared.column.Column.{Column};
 ghost use Rattle.mx_parquet.specs.declared.row.FullRow.{FullRow as Row};
 ghost use Rattle.mx_parquet.specs.declared.layout.Layout.{Layout as AnyLayout};
-ghost use Rattle.mx_parquet.specs.Columns.{columns_of};
 ghost use Rattle.mx_parquet.specs.Shape.{Struct};
 ghost use Rattle.mx_schema.specs.Columns.{IsSchema};
 ghost use Rattle.mx_parquet.specs.Opening.{file_layout};
@@ -23,7 +22,7 @@ pub(crate) fn footers_are_read_as_their_layouts()
     ensures says { (file : List ℕ) (fields : Struct) (layout : AnyLayout) (schema : List Column) (rows : List Row)
         → layout_in (length file) fields ≡ Ok layout → IsLaidOut file layout schema rows → IsFooter file fields schema rows }
     ensures reads { (file : List ℕ) (fields : Struct) (schema : List Column) (rows : List Row)
-        → AllByRecursion (λ column. IsUtf8 column.name) (columns_of schema) → length rows ≤ 16_384 → IsFooter file fields schema rows
+        → IsSchema schema → length rows ≤ 16_384 → IsFooter file fields schema rows
         → (layout : AnyLayout) × (layout_in (length file) fields ≡ Ok layout) × IsLaidOut file layout schema rows }
 {}
 
@@ -33,7 +32,6 @@ pub(crate) fn files_are_read_as_their_layouts()
     ensures says { (file : List ℕ) (layout : AnyLayout) (schema : List Column) (rows : List Row) → IsBytes file
         → file_layout file ≡ Ok layout → IsLaidOut file layout schema rows → IsSchema schema → AllByRecursion (IsFullRow schema) rows
         → Decodes file schema rows }
-    ensures reads { (file : List ℕ) (schema : List Column) (rows : List Row)
-        → AllByRecursion (λ column. IsUtf8 column.name) (columns_of schema) → Decodes file schema rows
+    ensures reads { (file : List ℕ) (schema : List Column) (rows : List Row) → Decodes file schema rows
         → (layout : AnyLayout) × (file_layout file ≡ Ok layout) × IsLaidOut file layout schema rows }
 {}

@@ -128,13 +128,13 @@ codec_by : (n m : ℤ) (b : Bool) → is_id 0 n ≡ b → cond b (good n) (unsup
 codec_by n m true is e = is_id_is 0 n is
 codec_by n m false is e = absurd cc
 
-count_says : (wanted : ℕ) (n : ℤ) (m : ℕ) → counted wanted n ≡ Ok m → n ≡ pos wanted
+pub count_says : (wanted : ℕ) (n : ℤ) (m : ℕ) → counted wanted n ≡ Ok m → n ≡ pos wanted
 count_says wanted n m e =
     let count = bind_ok (count_of n) (λ count. cond (eqb count wanted) (good count) bad) m e in
     let same = passed (eqb count.0 wanted) count.0 m count.2 in
     count_is n count.0 count.1 ∙ ap pos (eqb-true count.0 wanted same.0)
 
-count_reads : (wanted : ℕ) → counted wanted (pos wanted) ≡ Ok wanted
+pub count_reads : (wanted : ℕ) → counted wanted (pos wanted) ≡ Ok wanted
 count_reads wanted = rw (eq-eqb wanted wanted refl) refl
 
 -- the last of what is said of a chunk

@@ -13,6 +13,7 @@ mod LayoutsSay
 mod GroupsSay
 mod OpeningSays
 mod ColumnNames
+mod HeadersSay
 mod InTurn
 mod ChunkTurns
 mod Texts

@@ -10,3 +10,4 @@ pub mod Footer
 pub mod Opening
 pub mod Held
 pub mod Found
+pub mod Headers

@@ -205,7 +205,7 @@ fn uncompressed(codec: i32) -> Result<i32, Flaw>
     }
 }
 
-fn counted(wanted: usize, number: i64) -> Result<usize, Flaw>
+pub(crate) fn counted(wanted: usize, number: i64) -> Result<usize, Flaw>
     ensures { result ≡ footers.counted wanted number }
 {
     let count = count_of(number)?;

@@ -24,7 +24,8 @@
 //! Within the crate a file is read as far as its footer goes: `opening` finds the footer, `elements`, `schema` and
 //! `groups` tell what it says, each with the first broken rule (`specs/Opening.antt`, `specs/Footer.antt`,
 //! `specs/Found.antt`). A file stands for rows exactly where the chunks that are found so hold them (`reading_law`,
-//! `specs/Held.antt`). Nothing reads pages yet, and nothing hands rows out.
+//! `specs/Held.antt`). Of pages the headers are read (`header`, `specs/Headers.antt`) and not yet their bytes, and
+//! nothing hands rows out.
 #![tactic(auto)]
 
 mod column;
@@ -35,6 +36,7 @@ mod file_size;
 mod fitting;
 mod footer;
 mod groups;
+mod header;
 mod law;
 mod layout;
 mod opening;
@@ -52,6 +54,8 @@ pub use law::a_written_file_holds_its_rows;
 pub use row::FullRow;
 pub use writing::{size_rows, write_rows};
 
+#[cfg(test)]
+mod header_tests;
 #[cfg(test)]
 mod opening_tests;
 #[cfg(test)]

@@ -1,6 +1,7 @@
 use crate::error::{Feature, ParquetError};
 use crate::layout::{ChunkPlace, Layout};
 use crate::opening::layout_in;
+use crate::schema::schema_of;
 use crate::tests::ONE_ROW;
 use mx_schema::ColumnKind;
 use std::alloc::{AllocGlobal, Global};
@@ -27,7 +28,7 @@ fn fault_of(alloc: Global, file: &[u8]) -> Option<ParquetError> {
 }
 
 // The file of one row with another byte at a place.
-fn edited<R: Abort + AllocGlobal>(rt: &R, at: usize, byte: u8) -> Result<Vec<u8>, Fail> {
+pub(super) fn edited<R: Abort + AllocGlobal>(rt: &R, at: usize, byte: u8) -> Result<Vec<u8>, Fail> {
     let mut file = Vec::from_slice(rt.alloc(), ONE_ROW)?;
     assert!(rt; at < file.len());
     file[at] = byte;
@@ -121,4 +122,18 @@ fn a_broken_rule_of_a_field_is_told_at_the_footer(rt: HostRuntime) -> Result<(),
         (456, 0x04, BAD),
     ];
     shows(&rt, &cases)
+}
+
+#[test]
+fn the_schema_stands_behind_the_columns_of_hudi(rt: HostRuntime) -> Result<(), Fail> {
+    let alloc = rt.alloc();
+    let layout = layout_in(alloc, ONE_ROW).ok().expect(&rt, "a footer");
+    let columns = layout.columns.as_slice();
+    let schema = schema_of(alloc, columns).ok().expect(&rt, "a schema");
+    let text = schema.print(alloc)?;
+    assert_eq!(rt; text.as_str(), "a:int64");
+    assert!(rt; columns.len() == 6);
+    assert!(rt; schema_of(alloc, &columns[1..]).is_err());
+    assert!(rt; schema_of(alloc, &columns[..5]).is_err());
+    Ok(())
 }

@@ -6,8 +6,10 @@ ghost use Rattle.mx_parquet.specs.declared.row.FullRow.{FullRow as Row};
 ghost use Rattle.mx_parquet.specs.declared.layout.Layout.{Layout as AnyLayout};
 ghost use Rattle.mx_parquet.specs.Shape.{Struct};
 ghost use Rattle.mx_schema.specs.Columns.{IsSchema};
+ghost use Rattle.mx_parquet.specs.declared.header.PageSize.{PageSize as AnySize};
+ghost use Rattle.mx_parquet.specs.Headers.{header_in};
 ghost use Rattle.mx_parquet.specs.Opening.{file_layout};
-ghost use Rattle.mx_parquet.specs.Decoding.{IsElement, IsFooter, IsFullRow, Decodes};
+ghost use Rattle.mx_parquet.specs.Decoding.{IsElement, IsFooter, IsFullRow, IsPageHeader, Decodes};
 ghost use Rattle.mx_parquet.specs.Held.{IsBytes, IsLaidOut};
 ghost use Rattle.mx_parquet.specs.Footer.{element_in, layout_in};
 
@@ -34,4 +36,9 @@ pub(crate) fn files_are_read_as_their_layouts()
         → Decodes file schema rows }
     ensures reads { (file : List ℕ) (schema : List Column) (rows : List Row) → Decodes file schema rows
         → (layout : AnyLayout) × (file_layout file ≡ Ok layout) × IsLaidOut file layout schema rows }
+{}
+
+/// What is read of the header of a page is how many values and bytes it says.
+pub(crate) fn headers_are_read_as_they_say()
+    ensures { (fields : Struct) (page : AnySize) → (header_in fields ≡ Ok page) ↔ IsPageHeader fields page.value_count page.size }
 {}

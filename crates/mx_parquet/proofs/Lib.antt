@@ -6,3 +6,14 @@ pub mod Files
 pub mod Writable
 pub mod Again
 pub mod FileAgain
+mod OfKind
+mod Said
+mod ElementsSay
+mod LayoutsSay
+mod GroupsSay
+mod OpeningSays
+mod ColumnNames
+mod HeadersSay
+mod InTurn
+mod ChunkTurns
+mod Texts

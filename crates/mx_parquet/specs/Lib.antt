@@ -5,3 +5,9 @@ pub mod Encoding
 pub mod Fits
 pub mod Seen
 pub mod Decoding
+pub mod Reading
+pub mod Footer
+pub mod Opening
+pub mod Held
+pub mod Found
+pub mod Headers

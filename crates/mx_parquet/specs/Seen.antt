@@ -1,5 +1,5 @@
 -- What the code holds, as the definitions see it.
-use Rattle.std.specs.Prelude.{ℕ, List}
+use Rattle.std.specs.Prelude.{ℕ, List, Option, Some, None, Ok, Err}
 use Rattle.mx_schema.specs.declared.cell.Cell.{Cell}
 use Rattle.mx_schema.specs.declared.cell.Cell.TheVariants as cells
 use Rattle.mx_schema.specs.declared.column.Column.{Column}
@@ -7,7 +7,12 @@ use Rattle.mx_parquet.specs.declared.row.FullRow.{FullRow}
 use Rattle.mx_parquet.specs.declared.column.CellView.{CellView}
 use Rattle.mx_parquet.specs.declared.column.CellView.TheVariants as views
 use Rattle.mx_parquet.specs.declared.column.ColumnView.{ColumnView}
+use Rattle.mx_parquet.specs.declared.error.Flaw.TheVariants as flaws
+use Rattle.mx_parquet.specs.declared.fields.Standing.{Standing}
+use Rattle.mx_parquet.specs.declared.fields.Standing.TheVariants as standings
+use Rattle.mx_thrift.specs.declared.value.Value.{Value}
 use Rattle.mx_thrift.specs.Encoding.{IsWritable}
+use Rattle.mx_parquet.specs.Reading.{Read}
 use Rattle.mx_parquet.specs.Columns.{FilledColumn, cells_at}
 use Rattle.mx_parquet.specs.Shape.{Struct}
 
@@ -30,3 +35,9 @@ filled column place rows = record { column = seen column; cells = cells_at place
 -- a struct that has bytes
 unfoldable pub CanWrite : Struct → Type 0
 CanWrite fields = IsWritable fields
+
+-- how often a value stands, as it is read
+abbrev pub said : Standing → Read (Option Value)
+said standings.Never = Ok None
+said (standings.Once value) = Ok (Some value.now)
+said standings.Often = Err flaws.Bad

@@ -19,17 +19,32 @@
 //! | `a_written_file_holds_its_rows` | what is written stands for its schema and its rows |
 //!
 //! `specs/Decoding.antt` says which bytes stand for which rows, in any number of row groups and pages and with fields
-//! that are passed over (`Decodes`). Nothing reads a file yet.
+//! that are passed over (`Decodes`).
+//!
+//! Within the crate a file is read as far as its footer goes: `opening` finds the footer, `elements`, `schema` and
+//! `groups` tell what it says, each with the first broken rule (`specs/Opening.antt`, `specs/Footer.antt`,
+//! `specs/Found.antt`). A file stands for rows exactly where the chunks that are found so hold them (`reading_law`,
+//! `specs/Held.antt`). Of pages the headers are read (`header`, `specs/Headers.antt`) and not yet their bytes, and
+//! nothing hands rows out.
 #![tactic(auto)]
 
 mod column;
+mod elements;
+mod error;
+mod fields;
 mod file_size;
 mod fitting;
 mod footer;
+mod groups;
+mod header;
 mod law;
+mod layout;
+mod opening;
 mod page;
 mod page_size;
+mod reading_law;
 mod row;
+mod schema;
 mod shape;
 mod thrift_size;
 mod writing;
@@ -39,5 +54,9 @@ pub use law::a_written_file_holds_its_rows;
 pub use row::FullRow;
 pub use writing::{size_rows, write_rows};
 
+#[cfg(test)]
+mod header_tests;
+#[cfg(test)]
+mod opening_tests;
 #[cfg(test)]
 mod tests;

@@ -8,7 +8,7 @@ use std::test::*;
 const FILE: &str = "11111111-1111-4111-8111-111111111111_0-0-0_20250101000000000.parquet";
 
 /// The file of one row, as `tools/check-parquet-with-thrift` makes it.
-const ONE_ROW: &[u8] =
+pub(super) const ONE_ROW: &[u8] =
     b"PAR1\x15\x00\x15*\x15*,\x15\x02\x15\x00\x15\x06\x15\x06\x00\x00\x11\x00\x00\
     \x0020250101000000000\x15\x00\x152\x152\
     ,\x15\x02\x15\x00\x15\x06\x15\x06\x00\x00\x15\x00\x00\x00202501010\

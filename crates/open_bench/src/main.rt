@@ -4,7 +4,7 @@
 //! `.hoodie/`, and the changes, the reads and the bytes that the last round made.
 #![tactic(auto)]
 
-ghost use Rattle.std.specs.Prelude.{◌<◌};
+ghost use Rattle.std.specs.Prelude.{◌≡◌, Some};
 
 use mx_ask::FileText;
 use mx_base::{FileId, Instant, Partition};
@@ -12,7 +12,7 @@ use mx_lists::Text;
 use mx_open::init;
 use mx_recovery::{OpenFailed, open_world};
 use mx_schema::Schema;
-use mx_store::{MemStore, Store};
+use mx_store::{MemStore, Named, Store};
 use mx_writer::commit;
 use std::alloc::Global;
 use std::marker::Brand;
@@ -69,7 +69,7 @@ fn failed<T>() -> io::Result<T> {
 }
 
 fn moment() -> Instant
-    ensures { 0 < result }
+    ensures { result ≡ 20_250_101_000_000_000 }
 {
     match Instant::new(MOMENT) {
         Some(at) => at,
@@ -104,8 +104,15 @@ fn file(alloc: Global) -> io::Result<FileText> {
 
 // The table with so many commits more.
 fn filled(alloc: Global, store: MemStore, commits: u32) -> io::Result<MemStore> {
+    filled_as::<Brand>(alloc, store, commits)
+}
+
+fn filled_as<N: Named>(alloc: Global, store: MemStore, commits: u32) -> io::Result<MemStore>
+    requires opening { N.opening ≡ Some store.changes }
+    requires moment { N.moment ≡ 20_250_101_000_000_000 }
+{
     let file = file(alloc)?;
-    let Ok(mut table) = open_world::<MemStore, Brand>(alloc, store, moment()) else {
+    let Ok(mut table) = open_world::<MemStore, N>(alloc, store, moment()) else {
         return failed();
     };
     for _ in 0..commits {
@@ -124,8 +131,15 @@ fn make_round(alloc: Global, store: MemStore, reads: bool) -> io::Result<(MemSto
 }
 
 fn opened(alloc: Global, store: MemStore) -> io::Result<(MemStore, Round)> {
+    opened_as::<Brand>(alloc, store)
+}
+
+fn opened_as<N: Named>(alloc: Global, store: MemStore) -> io::Result<(MemStore, Round)>
+    requires opening { N.opening ≡ Some store.changes }
+    requires moment { N.moment ≡ 20_250_101_000_000_000 }
+{
     let before = (store.journal().len(), store.reads().len());
-    let store = match open_world::<MemStore, Brand>(alloc, store, moment()) {
+    let store = match open_world::<MemStore, N>(alloc, store, moment()) {
         Ok(table) => table.into_store(),
         Err(OpenFailed { store: _, why: _ }) => return failed(),
     };

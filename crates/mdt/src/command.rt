@@ -1,19 +1,27 @@
-ghost use Rattle.std.specs.Prelude.{◌≡◌, ◌≢◌, ◌↔◌, ◌<◌, ◌^◌, [], ℕ, length, take, IfSome, false};
+ghost use Rattle.std.specs.Prelude.{◌≡◌, ◌≢◌, ◌⊎◌, ◌<◌, ◌^◌, [], ℕ, List, length, take, IfSome};
+ghost use Rattle.mx_schema.specs.declared.column.Column.{Column};
 ghost use Rattle.mx_store.specs.Calls.{Rose};
 ghost use Rattle.mx_store.specs.Journal.{Begins};
 ghost use Rattle.mx_store.specs.Streams.{added};
 ghost use Rattle.mx_lines.specs.Ahead.{CountsBytes};
 ghost use Rattle.mx_lines.specs.Lines.{lines_of};
-ghost use Rattle.mx_state.specs.State.{IsEmptyFolder};
-ghost use Rattle.mx_state.specs.Answers.{IsValidSince};
-ghost use Rattle.mx_hub.specs.History.{HistoryIf, AllAnsweredIf, printed_replies};
-ghost use Rattle.mdt.specs.Words as grammar;
+ghost use Rattle.mx_world.specs.State.{StaysValid};
+ghost use Rattle.mx_hub.specs.History.{moment, printed_replies};
+ghost use Rattle.mdt.specs.Words.{IsCommand};
+ghost use Rattle.mdt.specs.declared.words.Command.{Command as Asked};
+ghost use Rattle.mdt.specs.declared.words.Command.TheVariants.{Init, Serve};
+ghost use Rattle.mdt.specs.Ends.{AnswersLines, IsEarly, MakesTable, Serves};
 
+use crate::status::{Status, ending_status, init_status, read_status};
+use crate::words::{Command, command_of};
 use mx_base::Instant;
-use mx_hub::{Served, Status, serve};
+use mx_hub::{Answered, Served, serve};
 use mx_lists::Listed;
+use mx_open::init;
+use mx_recovery::{OpenFailed, open_world};
+use mx_schema::Schema;
 use mx_store::{Named, Sink, Source, Store};
-use mx_world::{Answered, World};
+use mx_world::World;
 use std::alloc::Global;
 
 /// The end of a command: how it ended, the store as it left it, and the answers in the order in which they were kept.
@@ -23,9 +31,9 @@ pub struct Ended<S> {
     pub answers: Listed<Answered>,
 }
 
-/// Carries out the command of these words over a store that holds no object.
+/// Carries out the command of these words over a store.
 ///
-/// The words are those behind the program's name. `now` is the first instant that is drawn.
+/// The words are those behind the program's name. The next instant that is drawn is `now` at least.
 pub fn command<S: Store, I: Source, O: Sink, N: Named>(
     alloc: Global,
     words: &[String],
@@ -38,47 +46,109 @@ pub fn command<S: Store, I: Source, O: Sink, N: Named>(
     requires some { 0 < now }
     requires count { N.count ≡ S.faults store }
     requires opening { N.opening ≡ S.journal store }
-    requires empty { IsEmptyFolder (S.journal store) }
     ensures begins { Begins N.opening (S.journal result.store) }
-    ensures valid { IsValidSince N.opening (S.journal result.store) }
-    ensures history { HistoryIf N.moment N.opening (S.journal result.store) (I.left source.old) result.answers }
-    ensures all_lines { result.status ≡ Status.Done → IfSome (I.left source.old) (λ input. length result.answers ≡ length (lines_of input)) }
-    ensures all_changes { result.status ≡ Status.Done → AllAnsweredIf N.opening (S.journal result.store) result.answers }
-    ensures read_to_end { result.status ≡ Status.Done → IfSome (I.left source.new) (λ left. left ≡ []) }
+    ensures valid { StaysValid N.opening (S.journal result.store) }
+    ensures words { result.status ≡ Status.Words → (asked : Asked) → ¬ IsCommand words.now asked }
+    ensures no_words { ((asked : Asked) → ¬ IsCommand words.now asked) → ((result.status ≡ Status.Words) ⊎ (result.status ≡ Status.NoMemory)) × (S.journal result.store ≡ N.opening) }
+    ensures init { (schema : List Column) → IsCommand words.now (Init schema) → MakesTable schema N.opening (S.journal result.store) result.status ⊎ ((result.status ≡ Status.NoMemory) × (S.journal result.store ≡ N.opening)) }
+    ensures serves { IsCommand words.now Serve → Serves N.moment N.count N.opening (I.left source.old) (S.journal result.store) (S.faults result.store) result.status result.answers }
+    ensures early { IsEarly result.status → (I.left source.new ≡ I.left source.old) × (result.answers ≡ []) }
+    ensures to_end { IsCommand words.now Serve → result.status ≡ Status.Done → IfSome (I.left source.old) (λ input. (length input < 2 ^ 40) × (length result.answers ≡ length (lines_of input))) × IfSome (I.left source.new) (λ left. left ≡ []) }
     ensures written { result.status ≢ Status.SinkFault → O.written sink.new ≡ added (O.written sink.old) (printed_replies result.answers) }
     ensures written_part { result.status ≡ Status.SinkFault → (n : ℕ) × (O.written sink.new ≡ added (O.written sink.old) (take n (printed_replies result.answers))) }
-    ensures short { result.status ≡ Status.Done → IfSome (I.left source.old) (λ input. length input < 2 ^ 40) }
     ensures too_long { result.status ≡ Status.TooLong → CountsBytes 0 (I.left source.old) (2 ^ 40) (I.left source.new) }
-    ensures words { result.status ≡ Status.Words ↔ (grammar.is_serve words.now ≡ false) }
-    ensures words_do_nothing { result.status ≡ Status.Words → result.answers ≡ [] }
-    ensures words_change_nothing { result.status ≡ Status.Words → S.journal result.store ≡ N.opening }
-    ensures words_read_nothing { result.status ≡ Status.Words → I.left source.new ≡ I.left source.old }
     ensures source_fault { result.status ≡ Status.SourceFault → Rose (I.faults source.old) (I.faults source.new) }
     ensures sink_fault { result.status ≡ Status.SinkFault → Rose (O.faults sink.old) (O.faults sink.new) }
     ensures store_fault { result.status ≡ Status.StoreFault → Rose N.count (S.faults result.store) }
 {
-    if !is_serve(words) {
-        return Ended {
-            status: Status::Words,
-            store,
-            answers: Listed::new(alloc),
-        };
-    }
-    let mut world: World<S, N> = World::over(alloc, store, now);
-    let Served { status, answers } = serve(alloc, &mut world, source, sink);
-    Ended {
-        status,
-        store: world.into_store(),
-        answers,
+    match command_of(alloc, words) {
+        Ok(Some(Command::Init { schema })) => make_table(alloc, store, &schema),
+        Ok(Some(Command::Serve)) => serve_table::<S, I, O, N>(alloc, now, store, source, sink),
+        Ok(None) => unserved(alloc, Status::Words, store),
+        Err(_) => unserved(alloc, Status::NoMemory, store),
     }
 }
 
-// `serve <folder>`
-fn is_serve(words: &[String]) -> bool
-    ensures { result ≡ grammar.is_serve words.now }
+// No line was read.
+fn unserved<S>(alloc: Global, status: Status, store: S) -> Ended<S>
+    ensures status { result.status ≡ status }
+    ensures store { result.store ≡ store }
+    ensures answers { result.answers ≡ [] }
 {
-    match words {
-        [command, _folder] => command.as_str() == "serve",
-        _ => false,
+    Ended {
+        status,
+        store,
+        answers: Listed::new(alloc),
+    }
+}
+
+// Makes a new table.
+fn make_table<S: Store>(alloc: Global, store: S, schema: &Schema) -> Ended<S>
+    ensures makes { MakesTable schema.now (S.journal store) (S.journal result.store) result.status }
+    ensures answers { result.answers ≡ [] }
+    ensures store_fault { result.status ≡ Status.StoreFault → Rose (S.faults store) (S.faults result.store) }
+{
+    let mut store = store;
+    match init(alloc, &mut store, schema) {
+        Ok(()) => unserved(alloc, Status::Done, store),
+        Err(error) => unserved(alloc, init_status(error), store),
+    }
+}
+
+// Opens the table and answers the lines.
+fn serve_table<S: Store, I: Source, O: Sink, N: Named>(
+    alloc: Global,
+    now: Instant,
+    store: S,
+    source: &mut I,
+    sink: &mut O,
+) -> Ended<S>
+    requires moment { now ≡ N.moment }
+    requires some { 0 < now }
+    requires count { N.count ≡ S.faults store }
+    requires opening { N.opening ≡ S.journal store }
+    ensures begins { Begins N.opening (S.journal result.store) }
+    ensures valid { StaysValid N.opening (S.journal result.store) }
+    ensures serves { Serves N.moment N.count N.opening (I.left source.old) (S.journal result.store) (S.faults result.store) result.status result.answers }
+    ensures early { IsEarly result.status → (I.left source.new ≡ I.left source.old) × (result.answers ≡ []) }
+    ensures to_end { result.status ≡ Status.Done → IfSome (I.left source.old) (λ input. (length input < 2 ^ 40) × (length result.answers ≡ length (lines_of input))) × IfSome (I.left source.new) (λ left. left ≡ []) }
+    ensures written { result.status ≢ Status.SinkFault → O.written sink.new ≡ added (O.written sink.old) (printed_replies result.answers) }
+    ensures written_part { result.status ≡ Status.SinkFault → (n : ℕ) × (O.written sink.new ≡ added (O.written sink.old) (take n (printed_replies result.answers))) }
+    ensures too_long { result.status ≡ Status.TooLong → CountsBytes 0 (I.left source.old) (2 ^ 40) (I.left source.new) }
+    ensures source_fault { result.status ≡ Status.SourceFault → Rose (I.faults source.old) (I.faults source.new) }
+    ensures sink_fault { result.status ≡ Status.SinkFault → Rose (O.faults sink.old) (O.faults sink.new) }
+    ensures store_fault { result.status ≡ Status.StoreFault → Rose N.count (S.faults result.store) }
+    ensures no_words { result.status ≢ Status.Words }
+{
+    let opened: Result<World<S, N>, OpenFailed<S>> = open_world(alloc, store, now);
+    match opened {
+        Ok(table) => serve_opened(alloc, table, source, sink),
+        Err(OpenFailed { store, why }) => unserved(alloc, read_status(why), store),
+    }
+}
+
+// Answers the lines over the opened table.
+fn serve_opened<S: Store, I: Source, O: Sink, N: Named>(
+    alloc: Global,
+    table: World<S, N>,
+    source: &mut I,
+    sink: &mut O,
+) -> Ended<S>
+    ensures begins { Begins N.opening (S.journal result.store) }
+    ensures valid { StaysValid N.opening (S.journal result.store) }
+    ensures answers { AnswersLines N.opening (moment S.journal S.faults table) (I.left source.old) (S.journal result.store) (S.faults result.store) result.status result.answers }
+    ensures to_end { result.status ≡ Status.Done → IfSome (I.left source.old) (λ input. (length input < 2 ^ 40) × (length result.answers ≡ length (lines_of input))) × IfSome (I.left source.new) (λ left. left ≡ []) }
+    ensures written { result.status ≢ Status.SinkFault → O.written sink.new ≡ added (O.written sink.old) (printed_replies result.answers) }
+    ensures written_part { result.status ≡ Status.SinkFault → (n : ℕ) × (O.written sink.new ≡ added (O.written sink.old) (take n (printed_replies result.answers))) }
+    ensures too_long { result.status ≡ Status.TooLong → CountsBytes 0 (I.left source.old) (2 ^ 40) (I.left source.new) }
+    ensures source_fault { result.status ≡ Status.SourceFault → Rose (I.faults source.old) (I.faults source.new) }
+    ensures sink_fault { result.status ≡ Status.SinkFault → Rose (O.faults sink.old) (O.faults sink.new) }
+{
+    let mut table = table;
+    let Served { ending, answers } = serve(alloc, &mut table, source, sink);
+    Ended {
+        status: ending_status(ending),
+        store: table.into_store(),
+        answers,
     }
 }

@@ -1,10 +1,19 @@
 -- Parts of an ask as JSON, and that a line is at most one ask.
-use Rattle.std.proofs.Common.{◌≡◌, ℕ, List, ap}
+use Rattle.std.proofs.Common.{◌≡◌, ℕ, zero, suc, ◌<◌, ◌+◌, ◌^◌, List, [], ◌∷◌, ◌++◌, length, take, get_or, map, Some, None, All, refl, sym, ap, subst, ◌∙◌, arith}
 use Rattle.std.specs.Prelude.{codes}
-use Rattle.serde_json.specs.Data.{Data, string, object, no_members, member}
+use Rattle.std.proofs.lemmas.List.{take_more, map_push}
+use Rattle.std.proofs.lemmas.List.Elements.{All-head, All-tail}
+use Rattle.serde_json.specs.Data.{Data, string, object, Members, no_members, member}
+use Rattle.serde_json.specs.View.{view, items_of, items_view}
+use Rattle.serde_json.specs.declared.value.Value.{Value}
+use Rattle.mx_text.specs.Plain.{Spells}
+use Rattle.mx_base.specs.Digits.{instant_text}
+use Rattle.mx_base.specs.Paths.{number_of}
+use Rattle.mx_base.proofs.PathLemmas.{number_of-instant_text}
 use Rattle.mx_ask.specs.declared.ask.Ask.{Ask}
+use Rattle.mx_ask.specs.declared.ask.AskKind.{AskKind}
 use Rattle.mx_ask.specs.declared.ask.FileText.{FileText}
-use Rattle.mx_ask.specs.Asks.{file_data, ask_data, IsAsk}
+use Rattle.mx_ask.specs.Asks.{file_data, kind_data, IsFileText, IsSession, IsNamedKind, IsNamed, IsAskData, IsAsk}
 
 pub file_data-id : (file : FileText) (a b d : Data) → object (member (codes "file") a (member (codes "partition") b (member (codes "text") d no_members))) ≡ file_data file → a ≡ string file.file
 file_data-id file a b d e = cc
@@ -14,13 +23,80 @@ file_data-injective a b e =
     let parts : (a.file, (a.partition, a.text)) ≡ (b.file, (b.partition, b.text)) = cc in
     ap (λ (p : List ℕ × (List ℕ × List ℕ)). record { file = p.0; partition = p.1.0; text = p.1.1 }) parts
 
-pub ask_data-injective : (a b : Ask) → ask_data a ≡ ask_data b → a ≡ b
-ask_data-injective (Ask.Commit a) (Ask.Commit b) e =
-    let file : file_data a ≡ file_data b = cc in
-    ap Ask.Commit (file_data-injective a b file)
-ask_data-injective (Ask.Commit a) (Ask.Files b) e = cc
-ask_data-injective (Ask.Files a) (Ask.Commit b) e = cc
-ask_data-injective (Ask.Files a) (Ask.Files b) e = cc
+files-injective : (xs ys : List FileText) → items_of (map file_data xs) ≡ items_of (map file_data ys) → xs ≡ ys
+files-injective [] [] e = refl
+files-injective [] (y ∷ ys) e = cc
+files-injective (x ∷ xs) [] e = cc
+files-injective (x ∷ xs) (y ∷ ys) e =
+    let head : file_data x ≡ file_data y = cc in
+    let tail : items_of (map file_data xs) ≡ items_of (map file_data ys) = cc in
+    let first : x ≡ y = file_data-injective x y head in
+    let others : xs ≡ ys = files-injective xs ys tail in
+    cc
+
+-- one file more
+pub files_more : (values : List Value) (files new : List FileText) (file : FileText) (v : Value) (i : ℕ) → map view (take i values) ≡ map file_data files → view v ≡ file_data file → new ≡ files ++ file ∷ [] → i < length values → v ≡ get_or values i v → map view (take (i + 1) values) ≡ map file_data new
+files_more values files new file v i so_far reads pushed within is =
+    ap (map view) (take_more values i v within ∙ ap (λ (x : Value). take i values ++ x ∷ []) (sym is))
+    ∙ map_push view (take i values) v
+    ∙ ap (λ (d : Data). map view (take i values) ++ d ∷ []) reads
+    ∙ ap (λ (ds : List Data). ds ++ file_data file ∷ []) so_far
+    ∙ sym (map_push file_data files file)
+    ∙ ap (map file_data) (sym pushed)
+
+-- each item of a list of files is a file
+pub file_at : (values : List Value) (files : List FileText) (i : ℕ) (d : Value) → items_view values ≡ items_of (map file_data files) → All IsFileText files → i < length values → (file : FileText) × IsFileText file × (view (get_or values i d) ≡ file_data file)
+file_at [] files i d e named within = absurd (omega (arith, within))
+file_at (v ∷ vs) [] i d e named within = absurd (cc e)
+file_at (v ∷ vs) (f ∷ fs) zero d e named within = (f, All-head IsFileText f fs named, cc)
+file_at (v ∷ vs) (f ∷ fs) (suc i) d e named within =
+    let tail : items_view vs ≡ items_of (map file_data fs) = cc in
+    file_at vs fs i d tail (All-tail IsFileText f fs named) (omega (arith, within))
+
+instant_text-injective : (a b : ℕ) → a < 10 ^ 17 → b < 10 ^ 17 → instant_text a ≡ instant_text b → a ≡ b
+instant_text-injective a b small_a small_b e = sym (number_of-instant_text a small_a) ∙ ap number_of e ∙ number_of-instant_text b small_b
+
+kind_data-kind : (a b : AskKind) (xs ys : Members) → IsNamedKind a → IsNamedKind b → kind_data a xs ≡ kind_data b ys → a ≡ b
+kind_data-kind (AskKind.Commit a) (AskKind.Commit b) xs ys is_a is_b e =
+    let files : items_of (map file_data a) ≡ items_of (map file_data b) = cc in
+    ap AskKind.Commit (files-injective a b files)
+kind_data-kind (AskKind.Commit a) (AskKind.Files b at) xs ys is_a is_b e = cc
+kind_data-kind (AskKind.Files a at) (AskKind.Commit b) xs ys is_a is_b e = cc
+kind_data-kind (AskKind.Files a None) (AskKind.Files b None) xs ys is_a is_b e = cc
+kind_data-kind (AskKind.Files a None) (AskKind.Files b (Some at)) xs ys is_a is_b e = cc
+kind_data-kind (AskKind.Files a (Some at)) (AskKind.Files b None) xs ys is_a is_b e = cc
+kind_data-kind (AskKind.Files a (Some m)) (AskKind.Files b (Some n)) xs ys is_a is_b e =
+    let texts : instant_text m ≡ instant_text n = cc in
+    let instants : m ≡ n = instant_text-injective m n is_a.1 is_b.1 texts in
+    cc
+
+kind_data-rest : (a b : AskKind) (xs ys : Members) → kind_data a xs ≡ kind_data b ys → xs ≡ ys
+kind_data-rest (AskKind.Commit a) (AskKind.Commit b) xs ys e = cc
+kind_data-rest (AskKind.Commit a) (AskKind.Files b at) xs ys e = cc
+kind_data-rest (AskKind.Files a at) (AskKind.Commit b) xs ys e = cc
+kind_data-rest (AskKind.Files a None) (AskKind.Files b None) xs ys e = cc
+kind_data-rest (AskKind.Files a None) (AskKind.Files b (Some at)) xs ys e = cc
+kind_data-rest (AskKind.Files a (Some at)) (AskKind.Files b None) xs ys e = cc
+kind_data-rest (AskKind.Files a (Some m)) (AskKind.Files b (Some n)) xs ys e = cc
+
+IsSession-unique : (session other : ℕ) (members : Members) → IsSession session members → IsSession other members → session ≡ other
+IsSession-unique session other no_members is also = is ∙ sym also
+IsSession-unique session other (member name value rest) is also = cc
+
+IsAskData-unique : (a b : Ask) (json : Data) → IsNamed a → IsNamed b → IsAskData a json → IsAskData b json → a ≡ b
+IsAskData-unique a b json named_a named_b (xs, session_a, is_a) (ys, session_b, is_b) =
+    let same : kind_data a.kind xs ≡ kind_data b.kind ys = sym is_a ∙ is_b in
+    let rests : xs ≡ ys = kind_data-rest a.kind b.kind xs ys same in
+    let kinds : a.kind ≡ b.kind = kind_data-kind a.kind b.kind xs ys named_a.kind named_b.kind same in
+    let sessions : a.session ≡ b.session = IsSession-unique a.session b.session xs session_a (subst (IsSession b.session) (sym rests) session_b) in
+    let parts : (a.session, a.kind) ≡ (b.session, b.kind) = cc in
+    ap (λ (p : ℕ × AskKind). record { session = p.0; kind = p.1 }) parts
+
+-- the one ask of a JSON value is the one ask of its line
+pub IsAsk-only : (line : List ℕ) (json : Data) (ask other : Ask) → Spells line json → IsAskData ask json → IsNamed ask → IsAsk line other → other ≡ ask
+IsAsk-only line json ask other spells is named is_other =
+    let same : is_other.json ≡ json = cc in
+    IsAskData-unique other ask json is_other.named named (subst (IsAskData other) same is_other.is_ask) is
 
 pub IsAsk-unique : (line : List ℕ) (a b : Ask) → IsAsk line a → IsAsk line b → a ≡ b
-IsAsk-unique line a b is_a is_b = ask_data-injective a b cc
+IsAsk-unique line a b is_a is_b = IsAsk-only line is_b.json b a is_b.spells is_b.is_ask is_b.named is_a

@@ -1,2 +1,3 @@
 pub mod Floats
 pub mod AskLemmas
+pub mod ObjectLemmas

@@ -1,33 +1,72 @@
 -- Asks as JSON, and which line is which ask.
-use Rattle.std.specs.Prelude.{ℕ, ◌≤◌, List, length, codes}
-use Rattle.serde_json.specs.Data.{Data, string, array, object, no_items, item, no_members, member}
+use Rattle.std.specs.Prelude.{◌≡◌, ℕ, ◌≤◌, ◌<◌, ◌^◌, List, length, map, codes, All, Option, Some, None, IfSome}
+use Rattle.serde_json.specs.Data.{Data, number, string, array, object, Members, no_members, member, unsigned}
+use Rattle.serde_json.specs.View.{items_of}
 use Rattle.mx_text.specs.Plain.{Spells}
+use Rattle.mx_base.specs.Digits.{instant_text}
 use Rattle.mx_base.specs.Names.{IsFileId, IsPartition}
 use Rattle.mx_ask.specs.declared.ask.Ask.{Ask}
+use Rattle.mx_ask.specs.declared.ask.AskKind.{AskKind}
 use Rattle.mx_ask.specs.declared.ask.FileText.{FileText}
 
 -- a file that a commit adds
 abbrev pub file_data : FileText → Data
 file_data file = object (member (codes "file") (string file.file) (member (codes "partition") (string file.partition) (member (codes "text") (string file.text) no_members)))
 
--- the JSON value that an ask is, names in the order of their bytes
-abbrev pub ask_data : Ask → Data
-ask_data (Ask.Commit file) =
-    object (member (codes "ask") (string (codes "commit")) (member (codes "files") (array (item (file_data file) no_items)) no_members))
-ask_data (Ask.Files partition) = object (member (codes "ask") (string (codes "files")) (member (codes "partition") (string partition) no_members))
+-- the instant to look at in front of the other members, where there is one
+abbrev pub with_at : Option ℕ → Members → Members
+with_at None rest = rest
+with_at (Some at) rest = member (codes "at") (string (instant_text at)) rest
+
+-- a commit of this list of files, with the rest behind it
+abbrev pub commit_object : Data → Members → Data
+commit_object files rest = object (member (codes "ask") (string (codes "commit")) (member (codes "files") files rest))
+
+-- a look at this partition, with the rest behind it
+abbrev pub look_up_object : Option ℕ → Data → Members → Data
+look_up_object at partition rest = object (member (codes "ask") (string (codes "files")) (with_at at (member (codes "partition") partition rest)))
+
+-- the JSON value that asks so, names in the order of their bytes, with the rest behind it
+abbrev pub kind_data : AskKind → Members → Data
+kind_data (AskKind.Commit files) rest = commit_object (array (items_of (map file_data files))) rest
+kind_data (AskKind.Files partition at) rest = look_up_object at (string partition) rest
+
+-- the members that tell the session: one, or none where it is 1
+abbrev pub IsSession : ℕ → Members → Type 0
+IsSession session no_members = session ≡ 1
+IsSession session (member name value rest) = (name ≡ codes "session") × (value ≡ number (unsigned session)) × (rest ≡ no_members)
+
+-- the JSON value is this ask
+abbrev pub IsAskData : Ask → Data → Type 0
+IsAskData ask json = (session : Members) × IsSession ask.session session × (json ≡ kind_data ask.kind session)
+
+-- a session is a number from 1 to 64
+abbrev pub IsSessionNumber : ℕ → Type 0
+IsSessionNumber session = (1 ≤ session) × (session ≤ 64)
+
+-- an instant to look at has at most 17 digits
+abbrev pub IsMoment : Option ℕ → Type 0
+IsMoment at = IfSome at (λ instant. instant < 10 ^ 17)
 
 -- a file's id and partition are such
 pub record IsFileText (file : FileText) : Type 0 where
   pub id : IsFileId file.file
   pub partition : IsPartition file.partition
 
--- an ask's ids and partitions are such
-abbrev pub IsNamed : Ask → Type 0
-IsNamed (Ask.Commit file) = IsFileText file
-IsNamed (Ask.Files partition) = IsPartition partition
+-- ids, partitions and instants are such
+abbrev pub IsNamedKind : AskKind → Type 0
+IsNamedKind (AskKind.Commit files) = All IsFileText files
+IsNamedKind (AskKind.Files partition at) = IsPartition partition × IsMoment at
+
+-- an ask's session and names are such
+pub record IsNamed (ask : Ask) : Type 0 where
+  pub session : IsSessionNumber ask.session
+  pub kind : IsNamedKind ask.kind
 
 -- the line, without its newline, is this ask
 pub record IsAsk (line : List ℕ) (ask : Ask) : Type 0 where
+  pub json : Data
   pub short : length line ≤ 4194304
-  pub spells : Spells line (ask_data ask)
+  pub spells : Spells line json
+  pub is_ask : IsAskData ask json
   pub named : IsNamed ask

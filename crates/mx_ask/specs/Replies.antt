@@ -5,14 +5,34 @@ use Rattle.serde_json.specs.View.{items_of}
 use Rattle.serde_json.specs.Written.{compact_text}
 use Rattle.mx_base.specs.Digits.{instant_text}
 use Rattle.mx_ask.specs.declared.reply.FileSize.{FileSize}
+use Rattle.mx_ask.specs.declared.reply.Limit.{Limit}
 use Rattle.mx_ask.specs.declared.reply.Refusal.{Refusal}
 use Rattle.mx_ask.specs.declared.reply.Reply.{Reply}
 
--- the word for a refusal
-abbrev pub refusal_name : Refusal → List ℕ
-refusal_name Refusal.Line = codes "line"
-refusal_name Refusal.InstantsUsedUp = codes "InstantsUsedUp"
-refusal_name Refusal.NoMemory = codes "NoMemory"
+-- a refusal that is told by a word
+abbrev pub plain_refusal : List ℕ → ℕ → Data
+plain_refusal word seq = object (member (codes "refused") (string word) (member (codes "seq") (number (unsigned seq)) no_members))
+
+-- the word for what there is too much of
+abbrev pub limit_word : Limit → List ℕ
+limit_word Limit.Files = codes "files"
+limit_word Limit.Instants = codes "instants"
+limit_word Limit.Live = codes "live"
+
+-- the JSON value that a refusal is
+abbrev pub refusal_data : Refusal → ℕ → Data
+refusal_data Refusal.Line seq = plain_refusal (codes "line") seq
+refusal_data Refusal.InstantsUsedUp seq = plain_refusal (codes "InstantsUsedUp") seq
+refusal_data Refusal.NoMemory seq = plain_refusal (codes "NoMemory") seq
+refusal_data Refusal.StoreFault seq = plain_refusal (codes "StoreFault") seq
+refusal_data (Refusal.Changed path) seq =
+    object (member (codes "path") (string path) (member (codes "refused") (string (codes "Changed")) (member (codes "seq") (number (unsigned seq)) no_members)))
+refusal_data (Refusal.TooMany what count) seq =
+    object (member (codes "count") (number (unsigned count)) (member (codes "refused") (string (codes "TooMany")) (member (codes "seq") (number (unsigned seq)) (member (codes "what") (string (limit_word what)) no_members))))
+refusal_data (Refusal.DuplicateGroup partition file) seq =
+    object (member (codes "file") (string file) (member (codes "partition") (string partition) (member (codes "refused") (string (codes "DuplicateGroup")) (member (codes "seq") (number (unsigned seq)) no_members))))
+refusal_data (Refusal.Expired floor) seq =
+    object (member (codes "floor") (string (instant_text floor)) (member (codes "refused") (string (codes "Expired")) (member (codes "seq") (number (unsigned seq)) no_members)))
 
 -- a file with its size
 abbrev pub size_data : FileSize → Data
@@ -24,7 +44,7 @@ reply_data (Reply.Committed at files) seq =
     object (member (codes "files") (array (items_of (map string files))) (member (codes "instant") (string (instant_text at)) (member (codes "ok") (string (codes "commit")) (member (codes "seq") (number (unsigned seq)) no_members))))
 reply_data (Reply.Files at files) seq =
     object (member (codes "at") (string (instant_text at)) (member (codes "files") (array (items_of (map size_data files))) (member (codes "ok") (string (codes "files")) (member (codes "seq") (number (unsigned seq)) no_members))))
-reply_data (Reply.Refused refusal) seq = object (member (codes "refused") (string (refusal_name refusal)) (member (codes "seq") (number (unsigned seq)) no_members))
+reply_data (Reply.Refused refusal) seq = refusal_data refusal seq
 
 -- the line of a reply, without its newline
 unfoldable pub reply_text : Reply → ℕ → List ℕ

@@ -1,6 +1,8 @@
 //! What clients ask a table on one line, and what it replies on one line.
 //!
-//! An ask is a JSON object with exactly its fields, in any order and spacing, on a line of at most 4,194,304 bytes.
+//! An ask is a JSON object with its fields and no other, in any order and spacing, on a line of at most 4,194,304 bytes.
+//! The instant to look at and the session may be left out: then the newest commit is meant, and session 1. How many files
+//! a commit has is not looked at here.
 //!
 //! | call | contract |
 //! |---|---|
@@ -9,14 +11,18 @@
 #![tactic(auto)]
 
 mod ask;
+mod fields;
 mod members;
+mod objects;
 mod printing;
+#[cfg(test)]
+mod printing_tests;
 mod reading;
 mod reply;
 #[cfg(test)]
 mod tests;
 
-pub use ask::{Ask, FileText};
+pub use ask::{Ask, AskKind, FileText};
 pub use printing::print_reply;
 pub use reading::{LineError, ask_of};
-pub use reply::{FileSize, Refusal, Reply};
+pub use reply::{FileSize, Limit, Refusal, Reply};

@@ -1,5 +1,5 @@
 ghost use Rattle.std.specs.Prelude.{◌≡◌, ◌≢◌, List, ℕ, MatchOption};
-ghost use Rattle.serde_json.specs.Data.{Data, Members, string, array, object, no_items, item, no_members, member};
+ghost use Rattle.serde_json.specs.Data.{Data, Members, string, object, no_members, member};
 ghost use Rattle.serde_json.specs.View.{view, members_view};
 
 use serde_json::Value;
@@ -10,39 +10,6 @@ pub fn text_in(value: &Value) -> Option<&str>
     ensures { MatchOption result ((s : List ℕ) → view value.now ≢ string s) (λ s. view value.now ≡ string s.now) }
 {
     value.as_str()
-}
-
-/// The one item of a list.
-pub fn only_item(value: &Value) -> Option<&Value>
-    ensures { MatchOption result
-        ((d : Data) → view value.now ≢ array (item d no_items))
-        (λ v. view value.now ≡ array (item (view v.now) no_items)) }
-{
-    let mut items = value.as_array()?.iter();
-    let item = items.next()?;
-    match items.next() {
-        None => Some(item),
-        Some(_) => None,
-    }
-}
-
-/// The values of an object that has these two names and no other, the first before the second.
-pub fn two_members<'a>(
-    value: &'a Value,
-    first: &str,
-    second: &str,
-) -> Option<(&'a Value, &'a Value)>
-    ensures { MatchOption result
-        ((a b : Data) → view value.now ≢ object (member first.now a (member second.now b no_members)))
-        (λ p. view value.now ≡ object (member first.now (view p.0.now) (member second.now (view p.1.now) no_members))) }
-{
-    let mut members = value.as_object()?.iter();
-    let a = next_member(&mut members, first)?;
-    let b = next_member(&mut members, second)?;
-    match members.next() {
-        None => Some((a, b)),
-        Some(_) => None,
-    }
 }
 
 /// The values of an object that has these three names and no other, in this order.
@@ -66,7 +33,8 @@ pub fn three_members<'a>(
     }
 }
 
-fn next_member<'a>(members: &mut Iter<'a, String, Value>, name: &str) -> Option<&'a Value>
+/// The value of the next member, where it has this name.
+pub fn next_member<'a>(members: &mut Iter<'a, String, Value>, name: &str) -> Option<&'a Value>
     ensures { MatchOption result
         ((d : Data) (rest : Members) → members_view members.old ≢ member name.now d rest)
         (λ v. members_view members.old ≡ member name.now (view v.now) (members_view members.new)) }

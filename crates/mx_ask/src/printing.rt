@@ -1,10 +1,10 @@
 ghost use Rattle.std.specs.Prelude.{◌≡◌, IfOk, map};
 ghost use Rattle.serde_json.specs.Data.{string};
 ghost use Rattle.serde_json.specs.View.{view};
-ghost use Rattle.mx_ask.specs.Replies.{refusal_name, size_data, reply_data, reply_text};
+ghost use Rattle.mx_ask.specs.Replies.{plain_refusal, limit_word, refusal_data, size_data, reply_data, reply_text};
 
-use crate::{FileSize, Refusal, Reply};
-use mx_base::Path;
+use crate::{FileSize, Limit, Refusal, Reply};
+use mx_base::{FileId, Instant, Partition, Path};
 use mx_lists::Text;
 use mx_text::print;
 use serde_json::{Value, json};
@@ -32,20 +32,68 @@ fn reply_value(alloc: Global, reply: &Reply, seq: u64) -> Result<Value, AllocErr
             let at = at.to_text(alloc)?;
             json!(in alloc; {"at": at.as_str(), "files": sizes, "ok": "files", "seq": seq})
         }
-        Reply::Refused { refusal } => {
-            json!(in alloc; {"refused": refusal_word(*refusal), "seq": seq})
-        }
+        Reply::Refused { refusal } => refusal_value(alloc, refusal, seq),
     }
 }
 
-fn refusal_word(refusal: Refusal) -> &'static str
-    ensures { result.now ≡ refusal_name refusal }
+fn refusal_value(alloc: Global, refusal: &Refusal, seq: u64) -> Result<Value, AllocError>
+    ensures { IfOk result (λ v. view v ≡ refusal_data refusal.now seq) }
 {
     match refusal {
-        Refusal::Line => "line",
-        Refusal::InstantsUsedUp => "InstantsUsedUp",
-        Refusal::NoMemory => "NoMemory",
+        Refusal::Line => plain_value(alloc, "line", seq),
+        Refusal::InstantsUsedUp => plain_value(alloc, "InstantsUsedUp", seq),
+        Refusal::NoMemory => plain_value(alloc, "NoMemory", seq),
+        Refusal::StoreFault => plain_value(alloc, "StoreFault", seq),
+        Refusal::Changed { path } => {
+            json!(in alloc; {"path": path.as_str(), "refused": "Changed", "seq": seq})
+        }
+        Refusal::TooMany { what, count } => too_many_value(alloc, *what, *count, seq),
+        Refusal::DuplicateGroup { partition, file } => {
+            duplicate_value(alloc, partition, file, seq)
+        }
+        Refusal::Expired { floor } => expired_value(alloc, *floor, seq),
     }
+}
+
+fn too_many_value(alloc: Global, what: Limit, count: u64, seq: u64) -> Result<Value, AllocError>
+    ensures { IfOk result (λ v. view v ≡ refusal_data (Refusal.TooMany what count) seq) }
+{
+    json!(in alloc; {"count": count, "refused": "TooMany", "seq": seq, "what": limit_text(what)})
+}
+
+fn duplicate_value(
+    alloc: Global,
+    partition: &Partition,
+    file: &FileId,
+    seq: u64,
+) -> Result<Value, AllocError>
+    ensures { IfOk result (λ v. view v ≡ refusal_data (Refusal.DuplicateGroup partition.now file.now) seq) }
+{
+    let file = file.to_text(alloc)?;
+    json!(in alloc; {"file": file.as_str(), "partition": partition.as_str(), "refused": "DuplicateGroup", "seq": seq})
+}
+
+fn expired_value(alloc: Global, floor: Instant, seq: u64) -> Result<Value, AllocError>
+    ensures { IfOk result (λ v. view v ≡ refusal_data (Refusal.Expired floor) seq) }
+{
+    let floor = floor.to_text(alloc)?;
+    json!(in alloc; {"floor": floor.as_str(), "refused": "Expired", "seq": seq})
+}
+
+fn limit_text(what: Limit) -> &'static str
+    ensures { result.now ≡ limit_word what }
+{
+    match what {
+        Limit::Files => "files",
+        Limit::Instants => "instants",
+        Limit::Live => "live",
+    }
+}
+
+fn plain_value(alloc: Global, word: &str, seq: u64) -> Result<Value, AllocError>
+    ensures { IfOk result (λ v. view v ≡ plain_refusal word.now seq) }
+{
+    json!(in alloc; {"refused": word, "seq": seq})
 }
 
 fn path_values(alloc: Global, paths: &[Path]) -> Result<Vec<Value>, AllocError>

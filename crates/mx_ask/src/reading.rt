@@ -1,17 +1,17 @@
-ghost use Rattle.std.specs.Prelude.{◌≡◌, ◌≢◌, List, ℕ, IfOk, IsErrOf, MatchOption, Some, codes};
+ghost use Rattle.std.specs.Prelude.{◌≡◌, ◌≢◌, List, IfOk, IsErrOf, All, Some, codes, map};
 ghost use Rattle.serde_json.specs.Data.{string};
 ghost use Rattle.serde_json.specs.Find.{get};
-ghost use Rattle.serde_json.specs.View.{view};
-ghost use Rattle.mx_base.specs.Names.{IsFileId, IsPartition};
+ghost use Rattle.serde_json.specs.View.{view, items_of, items_view};
 ghost use Rattle.mx_ask.specs.declared.ask.Ask.{Ask};
 ghost use Rattle.mx_ask.specs.declared.ask.FileText.{FileText};
 ghost use Rattle.mx_ask.specs.declared.reading.LineError.TheVariants.{NoMemory};
-ghost use Rattle.mx_ask.specs.Asks.{file_data, ask_data, IsFileText, IsNamed, IsAsk};
+ghost use Rattle.mx_ask.specs.Asks.{file_data, IsFileText, IsNamed, IsAskData, IsAsk};
 
-use crate::members::{only_item, text_in, three_members, two_members};
-use crate::{Ask, FileText};
-use mx_base::{FileId, NameError, Partition};
-use mx_lists::Text;
+use crate::fields::{file_id_in, partition_in};
+use crate::members::{text_in, three_members};
+use crate::objects::{commit_parts, look_up_parts};
+use crate::{Ask, AskKind, FileText};
+use mx_lists::{Listed, Text};
 use mx_text::{TextError, read_line};
 use serde_json::Value;
 use std::alloc::{AllocError, Global};
@@ -51,46 +51,62 @@ pub fn ask_of(alloc: Global, line: &[u8]) -> Result<Ask, LineError>
 }
 
 fn ask_in(alloc: Global, value: &Value) -> Result<Ask, LineError>
-    ensures ok { IfOk result (λ ask. (view value.now ≡ ask_data ask) × IsNamed ask) }
+    ensures ok { IfOk result (λ ask. IsAskData ask (view value.now) × IsNamed ask) }
     ensures not_an_ask { IsErrOf result LineError.NotAnAsk
-        → (ask : Ask) → IsNamed ask → view value.now ≢ ask_data ask }
+        → (ask : Ask) → IsNamed ask → ¬ IsAskData ask (view value.now) }
 {
     match value.get("ask").and_then(Value::as_str) {
         Some("commit") => commit_in(alloc, value),
-        Some("files") => files_in(alloc, value),
+        Some("files") => look_up_in(alloc, value),
         _ => Err(LineError::NotAnAsk),
     }
 }
 
 fn commit_in(alloc: Global, value: &Value) -> Result<Ask, LineError>
     requires { get (codes "ask") (view value.now) ≡ Some (string (codes "commit")) }
-    ensures ok { IfOk result (λ ask. (view value.now ≡ ask_data ask) × IsNamed ask) }
+    ensures ok { IfOk result (λ ask. IsAskData ask (view value.now) × IsNamed ask) }
     ensures not_an_ask { IsErrOf result LineError.NotAnAsk
-        → (file : FileText) → IsFileText file → view value.now ≢ ask_data (Ask.Commit file) }
+        → (ask : Ask) → IsNamed ask → ¬ IsAskData ask (view value.now) }
 {
-    let Some((_, files)) = two_members(value, "ask", "files") else {
+    let Some((files, session)) = commit_parts(value) else {
         return Err(LineError::NotAnAsk);
     };
-    let Some(file) = only_item(files) else {
+    let Some(items) = files.as_array() else {
         return Err(LineError::NotAnAsk);
     };
-    Ok(Ask::Commit {
-        file: file_in(alloc, file)?,
+    let files = files_in(alloc, items.as_slice())?;
+    Ok(Ask {
+        session,
+        kind: AskKind::Commit { files },
     })
 }
 
-fn files_in(alloc: Global, value: &Value) -> Result<Ask, LineError>
+fn look_up_in(alloc: Global, value: &Value) -> Result<Ask, LineError>
     requires { get (codes "ask") (view value.now) ≡ Some (string (codes "files")) }
-    ensures ok { IfOk result (λ ask. (view value.now ≡ ask_data ask) × IsNamed ask) }
+    ensures ok { IfOk result (λ ask. IsAskData ask (view value.now) × IsNamed ask) }
     ensures not_an_ask { IsErrOf result LineError.NotAnAsk
-        → (partition : List ℕ) → IsPartition partition → view value.now ≢ ask_data (Ask.Files partition) }
+        → (ask : Ask) → IsNamed ask → ¬ IsAskData ask (view value.now) }
 {
-    let Some((_, partition)) = two_members(value, "ask", "partition") else {
+    let Some((at, partition, session)) = look_up_parts(value) else {
         return Err(LineError::NotAnAsk);
     };
-    Ok(Ask::Files {
-        partition: partition_in(alloc, partition)?,
+    let partition = partition_in(alloc, partition)?;
+    Ok(Ask {
+        session,
+        kind: AskKind::Files { partition, at },
     })
+}
+
+fn files_in(alloc: Global, items: &[Value]) -> Result<Listed<FileText>, LineError>
+    ensures ok { IfOk result (λ files. (items_view items.now ≡ items_of (map file_data files)) × All IsFileText files) }
+    ensures not_an_ask { IsErrOf result LineError.NotAnAsk
+        → (files : List FileText) → All IsFileText files → items_view items.now ≢ items_of (map file_data files) }
+{
+    let mut files = Listed::new(alloc);
+    for item in items {
+        files.push(file_in(alloc, item)?)?;
+    }
+    Ok(files)
 }
 
 fn file_in(alloc: Global, value: &Value) -> Result<FileText, LineError>
@@ -114,30 +130,4 @@ fn file_in(alloc: Global, value: &Value) -> Result<FileText, LineError>
         partition,
         text,
     })
-}
-
-fn file_id_in(value: &Value) -> Option<FileId>
-    ensures { MatchOption result
-        ((file : List ℕ) → IsFileId file → view value.now ≢ string file)
-        (λ file. (view value.now ≡ string file) × IsFileId file) }
-{
-    match FileId::parse(text_in(value)?) {
-        Ok(file) => Some(file),
-        Err(_) => None,
-    }
-}
-
-fn partition_in(alloc: Global, value: &Value) -> Result<Partition, LineError>
-    ensures ok { IfOk result (λ partition. (view value.now ≡ string partition) × IsPartition partition) }
-    ensures not_an_ask { IsErrOf result LineError.NotAnAsk
-        → (partition : List ℕ) → IsPartition partition → view value.now ≢ string partition }
-{
-    let Some(text) = text_in(value) else {
-        return Err(LineError::NotAnAsk);
-    };
-    match Partition::parse(alloc, text) {
-        Ok(partition) => Ok(partition),
-        Err(NameError::BadName) => Err(LineError::NotAnAsk),
-        Err(NameError::NoMemory) => Err(LineError::NoMemory),
-    }
 }

@@ -1,4 +1,4 @@
-use mx_base::{Instant, Path};
+use mx_base::{FileId, Instant, Partition, Path};
 use mx_lists::{Listed, Text};
 
 /// A file that the table has, by the last part of its path.
@@ -8,14 +8,35 @@ pub struct FileSize {
     pub size: u64,
 }
 
-/// Why an ask was refused.
+/// What there is more of than the table takes.
 #[derive(Clone, Copy, Debug, PartialEq, Eq)]
+pub enum Limit {
+    /// Files of one commit.
+    Files,
+    /// Instants of the timeline.
+    Instants,
+    /// Files that the table lists.
+    Live,
+}
+
+/// Why an ask was refused.
+#[derive(Debug, Drop)]
 pub enum Refusal {
     /// The line is no ask.
     Line,
     /// The last instant is taken.
     InstantsUsedUp,
     NoMemory,
+    /// A call of the store failed.
+    StoreFault,
+    /// Something stands at this path of which the table does not know.
+    Changed { path: Path },
+    /// There are more than the table takes.
+    TooMany { what: Limit, count: u64 },
+    /// Two files of a commit are of one group.
+    DuplicateGroup { partition: Partition, file: FileId },
+    /// The instant to look at is below the floor.
+    Expired { floor: Instant },
 }
 
 /// The answer to one line.

@@ -1,77 +1,7 @@
 use super::*;
-use mx_base::{Instant, Path};
-use mx_lists::{Listed, Text};
+use mx_base::Instant;
 use std::alloc::Global;
 use std::test::Fail;
-
-#[test]
-fn a_reply_is_one_line_of_json(rt: HostRuntime) -> Result<(), Fail> {
-    let alloc = rt.alloc();
-    let path = "2024-01-01/11111111-1111-4111-8111-111111111111_0-0-0_20250101000000000.parquet";
-    let name = "11111111-1111-4111-8111-111111111111_0-0-0_20250101000000000.parquet";
-    let start = Instant::parse("00000000000000000")?;
-    let at = Instant::parse("20250101000000000")?;
-
-    let mut paths = Listed::new(alloc);
-    paths.push(Path::parse(alloc, path)?)?;
-    let mut sizes = Listed::new(alloc);
-    sizes.push(FileSize {
-        name: Text::from_str(alloc, name)?,
-        size: 5,
-    })?;
-
-    let none = Reply::Files {
-        at: start,
-        files: Listed::new(alloc),
-    };
-    let committed = Reply::Committed { at, files: paths };
-    let files = Reply::Files { at, files: sizes };
-    let cases = [
-        (
-            &none,
-            0,
-            "{\"at\":\"00000000000000000\",\"files\":[],\"ok\":\"files\",\"seq\":0}",
-        ),
-        (
-            &committed,
-            3,
-            "{\"files\":[\"2024-01-01/11111111-1111-4111-8111-111111111111_0-0-0_20250101000000000.parquet\"],\"instant\":\"20250101000000000\",\"ok\":\"commit\",\"seq\":3}",
-        ),
-        (
-            &files,
-            3,
-            "{\"at\":\"20250101000000000\",\"files\":[{\"name\":\"11111111-1111-4111-8111-111111111111_0-0-0_20250101000000000.parquet\",\"size\":5}],\"ok\":\"files\",\"seq\":3}",
-        ),
-        (
-            &Reply::Refused {
-                refusal: Refusal::Line,
-            },
-            1,
-            "{\"refused\":\"line\",\"seq\":1}",
-        ),
-        (
-            &Reply::Refused {
-                refusal: Refusal::InstantsUsedUp,
-            },
-            2,
-            "{\"refused\":\"InstantsUsedUp\",\"seq\":2}",
-        ),
-        (
-            &Reply::Refused {
-                refusal: Refusal::NoMemory,
-            },
-            18446744073709551615,
-            "{\"refused\":\"NoMemory\",\"seq\":18446744073709551615}",
-        ),
-    ];
-    for (reply, seq, line) in cases {
-        assert_eq!(rt;
-            print_reply(alloc, reply, seq)?.as_str().as_bytes(),
-            line.as_bytes()
-        );
-    }
-    Ok(())
-}
 
 #[test]
 fn an_ask_has_exactly_its_fields_in_any_order_and_spacing(rt: HostRuntime) -> Result<(), Fail> {
@@ -99,8 +29,10 @@ fn an_ask_has_exactly_its_fields_in_any_order_and_spacing(rt: HostRuntime) -> Re
         ),
     ];
     for (line, text) in commits {
-        match ask_of(alloc, line)? {
-            Ask::Commit { file } => {
+        match ask_of(alloc, line)?.kind {
+            AskKind::Commit { files } => {
+                assert_eq!(rt; files.len(), 1);
+                let file = &files.as_slice()[0];
                 assert_eq!(rt;
                     file.file.print().as_slice(),
                     b"11111111-1111-4111-8111-111111111111".as_slice()
@@ -111,7 +43,7 @@ fn an_ask_has_exactly_its_fields_in_any_order_and_spacing(rt: HostRuntime) -> Re
                 );
                 assert_eq!(rt; file.text.as_str().as_bytes(), text);
             }
-            Ask::Files { partition } => assert!(rt; false, "a look at {partition:?}"),
+            AskKind::Files { partition, .. } => assert!(rt; false, "a look at {partition:?}"),
         }
     }
     let looks: [(&[u8], &[u8]); 4] = [
@@ -133,10 +65,122 @@ fn an_ask_has_exactly_its_fields_in_any_order_and_spacing(rt: HostRuntime) -> Re
         ),
     ];
     for (line, name) in looks {
-        match ask_of(alloc, line)? {
-            Ask::Files { partition } => assert_eq!(rt; partition.as_str().as_bytes(), name),
-            Ask::Commit { file } => assert!(rt; false, "a commit of {file:?}"),
+        match ask_of(alloc, line)?.kind {
+            AskKind::Files { partition, .. } => {
+                assert_eq!(rt; partition.as_str().as_bytes(), name);
+            }
+            AskKind::Commit { files } => assert!(rt; false, "a commit of {files:?}"),
         }
+    }
+    Ok(())
+}
+
+#[test]
+fn a_commit_has_any_number_of_files_in_their_order(rt: HostRuntime) -> Result<(), Fail> {
+    let alloc = rt.alloc();
+    let none: &[(&str, &str, &str)] = &[];
+    let two: &[(&str, &str, &str)] = &[
+        ("22222222-2222-4222-8222-222222222222", "b", "x"),
+        ("11111111-1111-4111-8111-111111111111", "a", ""),
+    ];
+    let same: &[(&str, &str, &str)] = &[
+        ("11111111-1111-4111-8111-111111111111", "a", "x"),
+        ("11111111-1111-4111-8111-111111111111", "a", "x"),
+        ("11111111-1111-4111-8111-111111111111", "a", "y"),
+    ];
+    let cases: [(&[u8], &[(&str, &str, &str)]); 4] = [
+        (b"{\"ask\":\"commit\",\"files\":[]}", none),
+        (b"{\"files\":[ ],\"ask\":\"commit\"}", none),
+        (
+            b"{\"ask\":\"commit\",\"files\":[{\"file\":\"22222222-2222-4222-8222-222222222222\",\"partition\":\"b\",\"text\":\"x\"} , {\"partition\":\"a\",\"text\":\"\",\"file\":\"11111111-1111-4111-8111-111111111111\"}]}",
+            two,
+        ),
+        (
+            b"{\"ask\":\"commit\",\"files\":[{\"file\":\"11111111-1111-4111-8111-111111111111\",\"partition\":\"a\",\"text\":\"x\"},{\"file\":\"11111111-1111-4111-8111-111111111111\",\"partition\":\"a\",\"text\":\"x\"},{\"file\":\"11111111-1111-4111-8111-111111111111\",\"partition\":\"a\",\"text\":\"y\"}]}",
+            same,
+        ),
+    ];
+    for (line, expected) in cases {
+        match ask_of(alloc, line)?.kind {
+            AskKind::Commit { files } => {
+                assert_eq!(rt; files.len(), expected.len());
+                for (file, (id, partition, text)) in files.as_slice().iter().zip(expected) {
+                    assert_eq!(rt; file.file.to_text(alloc)?.as_str(), *id);
+                    assert_eq!(rt; file.partition.as_str(), *partition);
+                    assert_eq!(rt; file.text.as_str(), *text);
+                }
+            }
+            AskKind::Files { partition, .. } => assert!(rt; false, "a look at {partition:?}"),
+        }
+    }
+    Ok(())
+}
+
+#[test]
+fn a_look_up_is_at_an_instant_or_at_the_newest_commit(rt: HostRuntime) -> Result<(), Fail> {
+    let alloc = rt.alloc();
+    let cases: [(&[u8], Option<&str>); 5] = [
+        (b"{\"ask\":\"files\",\"partition\":\"a\"}", None),
+        (
+            b"{\"ask\":\"files\",\"at\":\"20250101000000001\",\"partition\":\"a\"}",
+            Some("20250101000000001"),
+        ),
+        (
+            b" { \"partition\" : \"a\" , \"\\u0061t\" : \"0000000000000000\\u0030\" , \"ask\" : \"files\" } ",
+            Some("00000000000000000"),
+        ),
+        (
+            b"{\"session\":2,\"partition\":\"a\",\"at\":\"99999999999999999\",\"ask\":\"files\"}",
+            Some("99999999999999999"),
+        ),
+        (
+            b"{\"ask\":\"files\",\"at\":null,\"partition\":\"a\",\"at\":\"00000000000000001\"}",
+            Some("00000000000000001"),
+        ),
+    ];
+    for (line, expected) in cases {
+        match ask_of(alloc, line)?.kind {
+            AskKind::Files { partition, at } => {
+                assert_eq!(rt; partition.as_str(), "a");
+                let expected = match expected {
+                    Some(text) => Some(Instant::parse(text)?),
+                    None => None,
+                };
+                assert_eq!(rt; at, expected);
+            }
+            AskKind::Commit { files } => assert!(rt; false, "a commit of {files:?}"),
+        }
+    }
+    Ok(())
+}
+
+#[test]
+fn an_ask_is_of_the_session_that_it_tells_or_of_session_1(rt: HostRuntime) -> Result<(), Fail> {
+    let alloc = rt.alloc();
+    let cases: [(&[u8], u32); 8] = [
+        (b"{\"ask\":\"files\",\"partition\":\"a\"}", 1),
+        (b"{\"ask\":\"files\",\"partition\":\"a\",\"session\":1}", 1),
+        (
+            b"{\"session\" : 64 , \"ask\":\"files\",\"partition\":\"a\"}",
+            64,
+        ),
+        (
+            b"{\"ask\":\"files\",\"at\":\"00000000000000000\",\"partition\":\"a\",\"session\":9}",
+            9,
+        ),
+        (
+            b"{\"ask\":\"files\",\"partition\":\"a\",\"session\":65,\"session\":2}",
+            2,
+        ),
+        (b"{\"ask\":\"commit\",\"files\":[]}", 1),
+        (b"{\"ask\":\"commit\",\"files\":[],\"session\":1}", 1),
+        (
+            b"{\"ask\":\"commit\",\"\\u0073ession\":64,\"files\":[]}",
+            64,
+        ),
+    ];
+    for (line, session) in cases {
+        assert_eq!(rt; ask_of(alloc, line)?.session, session);
     }
     Ok(())
 }
@@ -144,7 +188,7 @@ fn an_ask_has_exactly_its_fields_in_any_order_and_spacing(rt: HostRuntime) -> Re
 #[test]
 fn any_other_line_is_no_ask(rt: HostRuntime) -> Result<(), Fail> {
     let alloc = rt.alloc();
-    let lines: [&[u8]; 37] = [
+    let lines: [&[u8]; 41] = [
         b"",
         b"null",
         b"1",
@@ -157,7 +201,6 @@ fn any_other_line_is_no_ask(rt: HostRuntime) -> Result<(), Fail> {
         b"{\"ask\":\"files\",\"partition\":\"2024-01-01\"} 1",
         b"{\"ask\":\"files\"}",
         b"{\"partition\":\"2024-01-01\"}",
-        b"{\"ask\":\"files\",\"partition\":\"2024-01-01\",\"session\":1}",
         b"{\"ask\":\"files\",\"partition\":\"2024-01-01\",\"a\":\"\"}",
         b"{\"ask\":\"files\",\"Partition\":\"2024-01-01\"}",
         b"{\"ask\":\"files\",\"files\":\"2024-01-01\"}",
@@ -175,12 +218,17 @@ fn any_other_line_is_no_ask(rt: HostRuntime) -> Result<(), Fail> {
         b"{\"ask\":\"files\",\"partition\":\"2024-01-01\",\"partition\":\"/\"}",
         b"{\"ask\":\"files\",\"partition\":\"2024-01-01\xff\"}",
         b"{\"ask\":\"commit\"}",
-        b"{\"ask\":\"commit\",\"files\":[]}",
         b"{\"ask\":\"commit\",\"files\":null}",
         b"{\"ask\":\"commit\",\"files\":[1]}",
         b"{\"ask\":\"commit\",\"files\":{\"file\":\"11111111-1111-4111-8111-111111111111\",\"partition\":\"2024-01-01\",\"text\":\"\"}}",
-        b"{\"ask\":\"commit\",\"files\":[{\"file\":\"11111111-1111-4111-8111-111111111111\",\"partition\":\"2024-01-01\",\"text\":\"\"},{\"file\":\"11111111-1111-4111-8111-111111111112\",\"partition\":\"2024-01-01\",\"text\":\"\"}]}",
-        b"{\"ask\":\"commit\",\"files\":[{\"file\":\"11111111-1111-4111-8111-111111111111\",\"partition\":\"2024-01-01\",\"text\":\"\"}],\"session\":1}",
+        b"{\"ask\":\"commit\",\"files\":[{\"file\":\"11111111-1111-4111-8111-111111111111\",\"partition\":\"2024-01-01\",\"text\":\"\"}],\"sessions\":1}",
+        b"{\"ask\":\"commit\",\"files\":[],\"partition\":\"2024-01-01\"}",
+        b"{\"ask\":\"commit\",\"at\":\"20250101000000000\",\"files\":[]}",
+        b"{\"ask\":\"commit\",\"files\":[{\"file\":\"11111111-1111-4111-8111-111111111111\",\"partition\":\"2024-01-01\",\"text\":\"\"},null]}",
+        b"{\"ask\":\"commit\",\"files\":[{\"file\":\"11111111-1111-4111-8111-111111111111\",\"partition\":\"2024-01-01\",\"text\":\"\"},{\"file\":\"11111111-1111-4111-8111-111111111112\",\"partition\":\"/\",\"text\":\"\"}]}",
+        b"{\"ask\":\"files\",\"partition\":\"2024-01-01\",\"session\":1,\"sessions\":1}",
+        b"{\"ask\":\"files\",\"at\":\"20250101000000000\"}",
+        b"{\"ask\":\"files\",\"at\":\"20250101000000000\",\"files\":[],\"partition\":\"2024-01-01\"}",
         b"{\"ask\":\"files\",\"files\":[{\"file\":\"11111111-1111-4111-8111-111111111111\",\"partition\":\"2024-01-01\",\"text\":\"\"}]}",
     ];
     for (at, line) in lines.iter().enumerate() {
@@ -210,6 +258,73 @@ fn any_other_line_is_no_ask(rt: HostRuntime) -> Result<(), Fail> {
             refusal(alloc, line.as_bytes()),
             Some(LineError::NotAnAsk),
             "file {at}"
+        );
+    }
+    Ok(())
+}
+
+#[test]
+fn a_session_is_an_integer_from_1_to_64(rt: HostRuntime) -> Result<(), Fail> {
+    let alloc = rt.alloc();
+    let sessions: [&str; 15] = [
+        "0",
+        "65",
+        "-1",
+        "-0",
+        "1.0",
+        "1.5",
+        "1e0",
+        "\"1\"",
+        "null",
+        "true",
+        "[1]",
+        "{}",
+        "4294967297",
+        "18446744073709551615",
+        "18446744073709551617",
+    ];
+    for session in sessions {
+        let look = format!(in alloc;
+            "{{\"ask\":\"files\",\"partition\":\"a\",\"session\":{session}}}"
+        )?;
+        let commit = format!(in alloc;
+            "{{\"ask\":\"commit\",\"files\":[],\"session\":{session}}}"
+        )?;
+        assert_eq!(rt;
+            refusal(alloc, look.as_bytes()),
+            Some(LineError::NotAnAsk),
+            "a look-up of session {session}"
+        );
+        assert_eq!(rt;
+            refusal(alloc, commit.as_bytes()),
+            Some(LineError::NotAnAsk),
+            "a commit of session {session}"
+        );
+    }
+    Ok(())
+}
+
+#[test]
+fn an_instant_to_look_at_is_a_text_of_17_digits(rt: HostRuntime) -> Result<(), Fail> {
+    let alloc = rt.alloc();
+    let instants: [&str; 10] = [
+        "null",
+        "20250101000000000",
+        "0",
+        "\"\"",
+        "\"2025010100000000\"",
+        "\"202501010000000000\"",
+        "\"2025010100000000a\"",
+        "\"+2025010100000000\"",
+        "\" 2025010100000000\"",
+        "[\"20250101000000000\"]",
+    ];
+    for at in instants {
+        let line = format!(in alloc; "{{\"ask\":\"files\",\"at\":{at},\"partition\":\"a\"}}")?;
+        assert_eq!(rt;
+            refusal(alloc, line.as_bytes()),
+            Some(LineError::NotAnAsk),
+            "at {at}"
         );
     }
     Ok(())

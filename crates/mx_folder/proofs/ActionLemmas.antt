@@ -122,7 +122,7 @@ module _ (o n : Objects) (at : ℕ) (commits : (a : ℕ) → a ≢ at → object
       (λ (above : at < suc p). upto_later p above (upto_from p (omega (arith, above))))
       (eq-or-lt_of_le within)
 
--- maps of two lists that were the same, with the same files behind
-pub files_map-append : (xs ys more : List AddedFile) → files_map xs ≡ files_map ys → files_map (xs ++ more) ≡ files_map (ys ++ more)
-files_map-append xs ys more same =
-    fold-append with_file finmap.empty xs more ∙ ap (λ (m : FilesMap). fold with_file m more) same ∙ sym (fold-append with_file finmap.empty ys more)
+-- maps of two lists that were the same, with files behind that add the same to any map
+pub files_map-append : (xs ys more others : List AddedFile) → files_map xs ≡ files_map ys → ((m : FilesMap) → fold with_file m more ≡ fold with_file m others) → files_map (xs ++ more) ≡ files_map (ys ++ others)
+files_map-append xs ys more others same alike =
+    fold-append with_file finmap.empty xs more ∙ ap (λ (m : FilesMap). fold with_file m more) same ∙ alike (files_map ys) ∙ sym (fold-append with_file finmap.empty ys others)

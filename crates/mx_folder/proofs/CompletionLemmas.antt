@@ -5,6 +5,7 @@ use Rattle.std.proofs.lemmas.Bool.{cases_lt}
 use Rattle.std.proofs.lemmas.Bool.Decides.{eqb_tells}
 use Rattle.std.proofs.lemmas.List.Elements.{All-contains}
 use Rattle.std.proofs.lemmas.Grind.{flat_map-append}
+use Rattle.std.proofs.lemmas.List.{append-nil}
 use Rattle.mx_base.specs.Objects.{object_path}
 use Rattle.mx_base.specs.declared.object_name.ObjectName.{ObjectName}
 use Rattle.mx_base.specs.declared.object_name.ObjectName.TheVariants.{Config, Timeline}
@@ -151,12 +152,13 @@ module _ (o n : Objects) (at : ℕ) (bytes : List ℕ) (may : MayComplete o at b
       late : at ≤ p → files_map (logged_files n (actions_upto n p)) ≡ files_map (listed_files (actions_upto n p))
       late within =
           let same = upto_from o n at commit_same none_before may.newest action counts p within in
-          let here : logged_files n (action ∷ []) ≡ files_of action ++ [] = ap (λ (fs : List AddedFile). fs ++ []) (added_at-same o n at (log_same at) ∙ may.logged) in
+          let here : logged_files n (action ∷ []) ≡ added_at o at ++ [] = ap (λ (fs : List AddedFile). fs ++ []) (added_at-same o n at (log_same at)) in
           ap (λ (done : List Action). files_map (logged_files n done)) same
           ∙ ap (λ (fs : List AddedFile). files_map fs)
           (flat_map-append (λ (a : Action). added_at n a.at) (actions_upto o p) (action ∷ []) ∙ ap (λ (fs : List AddedFile). fs ++ logged_files n (action ∷ [])) (logged_same p)
-          ∙ ap (λ (fs : List AddedFile). logged_files o (actions_upto o p) ++ fs) here)
-          ∙ files_map-append (logged_files o (actions_upto o p)) (listed_files (actions_upto o p)) (files_of action ++ []) (valid.shows p)
+          ∙ ap (λ (fs : List AddedFile). logged_files o (actions_upto o p) ++ fs) (here ∙ append-nil (added_at o at)))
+          ∙ files_map-append (logged_files o (actions_upto o p)) (listed_files (actions_upto o p)) (added_at o at) (files_of action) (valid.shows p) may.logged
+          ∙ ap (λ (fs : List AddedFile). files_map (listed_files (actions_upto o p) ++ fs)) (sym (append-nil (files_of action)))
           ∙ ap (λ (fs : List AddedFile). files_map fs) (sym (flat_map-append files_of (actions_upto o p) (action ∷ [])))
           ∙ ap (λ (done : List Action). files_map (listed_files done)) (sym same)
 

@@ -6,3 +6,5 @@ pub mod LooseLemmas
 pub mod CompletionLemmas
 pub mod PendingLemmas
 pub mod CompletedLemmas
+pub mod FoldLemmas
+pub mod FileLemmas

@@ -1,5 +1,5 @@
 -- Which changes of one object leave a table valid.
-use Rattle.std.specs.Prelude.{◌≡◌, ◌≢◌, ℕ, ◌<◌, List, All, Some, None, IsSome}
+use Rattle.std.specs.Prelude.{◌≡◌, ◌≢◌, ℕ, ◌<◌, List, All, Some, None, IsSome, fold}
 use Rattle.mx_base.specs.Objects.{IsObjectName, object_path}
 use Rattle.mx_base.specs.declared.object_name.ActionKind.TheVariants as action
 use Rattle.mx_base.specs.declared.object_name.ActionState.TheVariants.{Requested, Inflight, Completed}
@@ -11,6 +11,7 @@ use Rattle.mx_meta.specs.CommitText.{commit_meta_of}
 use Rattle.mx_meta.specs.ShardFiles.{delta_meta_of}
 use Rattle.mx_meta.specs.declared.commit_meta.CommitMeta.{CommitMeta}
 use Rattle.mx_model.specs.Listing.{files_of}
+use Rattle.mx_model.specs.Maps.{FilesMap, with_file}
 use Rattle.mx_folder.specs.Named.{object_at, commit_name, delta_name, log_name, first_bases, IsHidden}
 use Rattle.mx_folder.specs.Actions.{IsCompleted, added_at}
 use Rattle.mx_folder.specs.Reading.{NamesItsFiles}
@@ -33,7 +34,8 @@ pub record IsLoose (objects : Objects) (path : List ℕ) : Type 0 where
 abbrev pub MayStand : Objects → Objects → List ℕ → Type 0
 MayStand old new path = (bytes : List ℕ) → IsHidden path → at_path new path ≡ Some bytes → IsObjectAt old path bytes
 
--- the commit of the instant may be completed by this object: it is the newest one, its logs stand, and they say what the object lists
+-- the commit of the instant may be completed by this object: it is the newest one, its logs stand, and they add to any map of
+-- files what the object lists
 pub record MayComplete (objects : Objects) (at : ℕ) (bytes : List ℕ) : Type 0 where
   pub is_name : IsObjectName (commit_name at)
   pub absent : at_path objects (object_path (commit_name at)) ≡ None
@@ -46,7 +48,7 @@ pub record MayComplete (objects : Objects) (at : ℕ) (bytes : List ℕ) : Type 
   pub logs : List (List ℕ)
   pub delta_reads : delta_meta_of delta ≡ Some logs
   pub stand : All (λ path. IsSome (at_path objects path)) logs
-  pub logged : added_at objects at ≡ files_of (record { at = at; meta = meta })
+  pub logged : (files : FilesMap) → fold with_file files (added_at objects at) ≡ fold with_file files (files_of (record { at = at; meta = meta }))
 
 -- an object that a commit of the instant makes before the one that completes it
 abbrev pub IsMadeBefore : ℕ → ObjectName → Type 0

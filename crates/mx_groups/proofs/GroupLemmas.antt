@@ -18,13 +18,13 @@ use Rattle.mx_folder.specs.Actions.{action_at}
 use Rattle.mx_groups.specs.declared.groups.Groups.{Groups}
 use Rattle.mx_groups.specs.Groups.{groups_of, groups_at, listed_at, held_at, AreGroupsOf, AreCommits, IsNewestOf, RisesTo, IsNewestIn, HoldsThose}
 
-mapped_push : {A B : Type 0} (f : A → B) (front : List A) (x : A) → map f (front ++ x ∷ []) ≡ map f front ++ f x ∷ []
+pub mapped_push : {A B : Type 0} (f : A → B) (front : List A) (x : A) → map f (front ++ x ∷ []) ≡ map f front ++ f x ∷ []
 mapped_push f [] x = refl
 mapped_push {A} {B} f (y ∷ front) x = ap (λ (l : List B). f y ∷ l) (mapped_push f front x)
 
 -- ---- one commit more or less
 
-same_test : (at q : ℕ) → eq_by_cmp nat_cmp at q ≡ nat_eq q at
+pub same_test : (at q : ℕ) → eq_by_cmp nat_cmp at q ≡ nat_eq q at
 same_test at q = ⊎_elim
     (λ (here : (nat_eq q at ≡ true) × (q ≡ at)). subst (λ (n : ℕ). eq_by_cmp nat_cmp at n ≡ true) (sym here.1) ((eq_by_cmp_equiv nat_cmp_total).refl at) ∙ sym here.0)
     (λ (there : (nat_eq q at ≡ false) × (q ≢ at)). false_from_ne_true (eq_by_cmp nat_cmp at q) (λ is. there.1 (sym (tells_apart exact_unsigned at q is))) ∙ sym there.0)

@@ -1,2 +1,4 @@
+pub mod CountLemmas
 pub mod GroupLemmas
 pub mod ListingLemmas
+pub mod NoteLemmas

@@ -1,17 +1,19 @@
 -- Which groups each completed commit wrote a file of.
-use Rattle.std.specs.Prelude.{◌≡◌, ◌≢◌, ◌⊎◌, ℕ, ◌≤◌, max, List, [], All, Contains, IsSome, map, unwrap_or, Some}
+use Rattle.std.specs.Prelude.{◌≡◌, ◌≢◌, ◌⊎◌, ℕ, ◌-◌, ◌^◌, ◌≤◌, min, max, List, [], length, All, Contains, IsSome, map, unwrap_or, Some}
 use Rattle.std.specs.BTreeMap as tree
 use Rattle.std.specs.BTreeMap.{BTreeMap}
-use Rattle.std.specs.List.{flat_map}
+use Rattle.std.specs.List.{flat_map, sum_by}
 use Rattle.std.specs.Option.{option_map_or}
 use Rattle.std.specs.Ordering.{nat_cmp}
 use Rattle.mx_base.specs.Paths.{group_name}
+use Rattle.mx_meta.specs.CommitText.{commit_meta_of}
 use Rattle.mx_meta.specs.declared.commit_meta.CommitMeta.{CommitMeta}
 use Rattle.mx_meta.specs.declared.commit_meta.PartitionStats.{PartitionStats}
 use Rattle.mx_meta.specs.declared.commit_meta.WriteStat.{WriteStat}
+use Rattle.mx_model.specs.Listing.{listed_files}
 use Rattle.mx_model.specs.declared.action.Action.{Action}
 use Rattle.mx_store.specs.Objects.{Objects}
-use Rattle.mx_folder.specs.Actions.{action_at}
+use Rattle.mx_folder.specs.Actions.{action_at, actions_upto}
 use Rattle.mx_groups.specs.declared.groups.Groups.{Groups}
 
 -- the groups whose files a commit's object lists, in its order
@@ -44,7 +46,23 @@ pub record IsNewestOf (objects : Objects) (group : List ℕ) (at : ℕ) : Type 0
   pub counts : at ≢ 0 → Contains (groups_at objects at) group
   pub above : (other : ℕ) → Contains (groups_at objects other) group → other ≤ at
 
+-- no commit that counts is above the instant
+abbrev pub AreAllUpto : Objects → ℕ → Type 0
+AreAllUpto objects at = (other : ℕ) → IsSome (action_at objects other) → other ≤ at
+
+-- the completed commits list so many files, as far as a number of 64 bits tells it
+abbrev pub CountsLive : Objects → ℕ → Type 0
+CountsLive objects count = (at : ℕ) → AreAllUpto objects at → count ≡ min (2 ^ 64 - 1) (length (listed_files (actions_upto objects at)))
+
 -- ---- for private clauses
+
+-- how many groups stand under all instants
+abbrev pub count_in : BTreeMap ℕ (List (List ℕ)) → ℕ
+count_in commits = sum_by (λ groups. length groups) (tree.values commits)
+
+-- those of a commit whose object has these bytes, none where it does not read
+abbrev pub groups_in : List ℕ → List (List ℕ)
+groups_in bytes = option_map_or groups_of (commit_meta_of bytes) []
 
 -- the greater of the two where it holds, and else the first
 abbrev pub RisesTo : ℕ → ℕ → Type 0 → ℕ → Type 0

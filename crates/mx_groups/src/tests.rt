@@ -79,7 +79,7 @@ fn newest_at_first(alloc: Global) -> Result<[u64; 4], Fail> {
 fn newest_without(alloc: Global, number: u64) -> Result<[u64; 4], Fail> {
     let commits = three_commits(alloc)?;
     let mut groups = Groups::of(alloc, commits.as_slice())?;
-    groups.remove(instant(number)?);
+    groups.forget(&Path::of_commit(alloc, instant(number)?)?);
     newest_of_all(alloc, &groups)
 }
 
@@ -98,5 +98,20 @@ fn a_commit_that_is_taken_out_counts_no_more(rt: HostRuntime) -> Result<(), Fail
     assert!(rt; newest_without(alloc, 30)? == [10, 10, 0, 0]);
     assert!(rt; newest_without(alloc, 10)? == [30, 0, 30, 0]);
     assert!(rt; newest_without(alloc, 20)? == [30, 10, 30, 0]);
+    Ok(())
+}
+
+#[test]
+fn the_files_of_all_commits_are_counted(rt: HostRuntime) -> Result<(), Fail> {
+    let alloc = rt.alloc();
+    let commits = three_commits(alloc)?;
+    let mut groups = Groups::of(alloc, commits.as_slice())?;
+    assert_eq!(rt; groups.live(), 4);
+    groups.forget(&Path::of_commit(alloc, instant(20)?)?);
+    assert_eq!(rt; groups.live(), 4);
+    groups.forget(&Path::of_commit(alloc, instant(30)?)?);
+    assert_eq!(rt; groups.live(), 2);
+    groups.forget(&Path::of_commit(alloc, instant(10)?)?);
+    assert_eq!(rt; groups.live(), 0);
     Ok(())
 }

@@ -1,83 +1,70 @@
 -- The answers of a call as one history of the lines that it took.
-use Rattle.std.specs.Prelude.{◌≡◌, ◌⊎◌, ℕ, ◌+◌, ◌≤◌, List, [], ◌∷◌, ◌++◌, length, take, Option, Some, None, IfSome}
+use Rattle.std.specs.Prelude.{◌≡◌, ◌⊎◌, ℕ, ◌+◌, List, [], ◌∷◌, ◌++◌, length, take, Option, IfSome}
 use Rattle.std.specs.List.{flat_map}
 use Rattle.mx_store.specs.declared.change.Change.{Change}
 use Rattle.mx_ask.specs.declared.ask.Ask.{Ask}
-use Rattle.mx_ask.specs.declared.ask.FileText.{FileText}
 use Rattle.mx_ask.specs.declared.reply.Refusal.{Refusal}
-use Rattle.mx_ask.specs.declared.reply.Reply.{Reply}
 use Rattle.mx_ask.specs.Asks.{IsAsk}
 use Rattle.mx_ask.specs.Replies.{reply_text}
-use Rattle.mx_lines.specs.Lines.{lines_of}
-use Rattle.mx_state.specs.declared.answered.Answered.{Answered}
-use Rattle.mx_state.specs.Answers.{IsReplyTo, IsBrokenOff}
+use Rattle.mx_lines.specs.declared.line.Line.{Line}
+use Rattle.mx_lines.specs.Lines.{IsLine, lines_of}
+use Rattle.mx_world.specs.State.{Shown, Standing, standing}
+use Rattle.mx_hub.specs.Answers.{IsAnswered, IsRefusedFor, CountsReply}
+use Rattle.mx_hub.specs.declared.answered.Answered.{Answered}
+use Rattle.mx_hub.specs.declared.serving.Ending.{Ending}
+use Rattle.mx_hub.specs.declared.serving.Ending.TheVariants.{Done, NoMemory, SourceFault, SinkFault, TooLong}
+
+-- how a table stands, with the count of its store's faults
+pub record Moment : Type 0 where
+  pub standing : Standing
+  pub faults : ℕ
+
+abbrev pub moment : {S : Type 0} → (S → Option (List Change)) → (S → ℕ) → Shown S → Moment
+moment journal faults w = record { standing = standing journal w; faults = faults w.store }
 
 -- no ask has this line
 abbrev pub IsNoAsk : List ℕ → Type 0
 IsNoAsk line = (ask : Ask) → ¬ IsAsk line ask
 
--- the reply to a line that is an ask, by the journals before it and after it
-pub record RepliesToAsk (now : ℕ) (opening before after : List Change) (line : List ℕ) (reply : Reply) : Type 0 where
-  pub ask : Ask
-  pub is_ask : IsAsk line ask
-  pub is_reply : IsReplyTo now opening before after ask reply
+-- an ask is answered, a line that is none is refused, and memory may have been wanted before it was known which it is
+abbrev pub AnswersLine : Option (List Change) → List ℕ → Standing → Standing → Answered → Type 0
+AnswersLine opening line before after answered =
+    ((ask : Ask) × IsAsk line ask × IsAnswered opening ask before after answered)
+    ⊎ ((IsNoAsk line × IsRefusedFor Refusal.Line before after answered) ⊎ IsRefusedFor Refusal.NoMemory before after answered)
 
--- the refusal of a line that is none
-pub record RefusesLine (before after : List Change) (line : List ℕ) (reply : Reply) : Type 0 where
-  pub no_ask : IsNoAsk line
-  pub refused : reply ≡ Reply.Refused Refusal.Line
-  pub unchanged : after ≡ before
-
--- memory was wanted before it was known what the line is
-pub record RunsShort (before after : List Change) (reply : Reply) : Type 0 where
-  pub refused : reply ≡ Reply.Refused Refusal.NoMemory
-  pub unchanged : after ≡ before
-
-abbrev pub IsLineReply : ℕ → List Change → List Change → List Change → List ℕ → Reply → Type 0
-IsLineReply now opening before after line reply = RepliesToAsk now opening before after line reply ⊎ (RefusesLine before after line reply ⊎ RunsShort before after reply)
-
--- the answer is that of the line of this number, which the call took after so many changes
-pub record IsAnswerOf (now : ℕ) (opening journal : List Change) (number begun : ℕ) (line : List ℕ) (answered : Answered) : Type 0 where
+-- the answer to the line of this number
+pub record IsAnswerOf (opening : Option (List Change)) (number : ℕ) (line : List ℕ) (before after : Moment) (answered : Answered) : Type 0 where
   pub ask : answered.ask ≡ number
-  pub begun_is : answered.begun ≡ begun
-  pub rises : answered.begun ≤ answered.seq
-  pub within : length opening + answered.seq ≤ length journal
-  pub reply : IsLineReply now opening (take (length opening + answered.begun) journal) (take (length opening + answered.seq) journal) line answered.reply
+  pub faults : CountsReply before.faults after.faults answered.reply
+  pub answers : AnswersLine opening line before.standing after.standing answered
 
--- the answers are those of the lines, each once and in their order; no change stands between them
-abbrev pub AnswersFit : ℕ → List Change → List Change → ℕ → ℕ → List (List ℕ) → List Answered → Type 0
-AnswersFit now opening journal number begun [] [] = Unit {0}
-AnswersFit now opening journal number begun [] (a ∷ answers) = ⊥
-AnswersFit now opening journal number begun (line ∷ lines) [] = ⊥
-AnswersFit now opening journal number begun (line ∷ lines) (a ∷ answers) =
-    IsAnswerOf now opening journal number begun line a × AnswersFit now opening journal (number + 1) a.seq lines answers
+-- the answers are those of the lines, each once and in their order; each begins where the one before it ended
+abbrev pub AnswersFit : Option (List Change) → ℕ → List (List ℕ) → List Answered → Moment → Moment → Type 0
+AnswersFit opening number [] [] before after = after ≡ before
+AnswersFit opening number [] (a ∷ answers) before after = ⊥
+AnswersFit opening number (line ∷ lines) [] before after = ⊥
+AnswersFit opening number (line ∷ lines) (a ∷ answers) before after =
+    (during : Moment) × IsAnswerOf opening number line before during a × AnswersFit opening (number + 1) lines answers during after
 
--- the number of changes after the last answer
-abbrev pub last_seq : ℕ → List Answered → ℕ
-last_seq begun [] = begun
-last_seq begun (a ∷ answers) = last_seq a.seq answers
+-- an answer was not kept, since memory was wanted to print it
+abbrev pub IsLost : Option (List Change) → ℕ → Moment → Moment → Type 0
+IsLost opening number before after = (line : List ℕ) × (a : Answered) × IsAnswerOf opening number line before after a
 
--- what a call left of a commit at which it ended: nothing, or its first changes
-abbrev pub IsUnfinished : ℕ → List Change → List Change → List Change → Type 0
-IsUnfinished now opening before after = (after ≡ before) ⊎ ((file : FileText) × IsBrokenOff now opening before after file)
+-- what stands after the last answer that was kept, by the end of the call
+abbrev pub IsLeftBy : Ending → Option (List Change) → ℕ → Moment → Moment → Type 0
+IsLeftBy NoMemory opening number before after = (after ≡ before) ⊎ IsLost opening number before after
+IsLeftBy Done opening number before after = after ≡ before
+IsLeftBy SourceFault opening number before after = after ≡ before
+IsLeftBy SinkFault opening number before after = after ≡ before
+IsLeftBy TooLong opening number before after = after ≡ before
 
--- the journals are told: the answers are those of the first lines of the input, where it is told
-pub record IsHistory (now : ℕ) (opening journal : List Change) (input : Option (List ℕ)) (answers : List Answered) : Type 0 where
+-- the answers are those of the first lines of the input, where it is told
+pub record IsHistory (opening : Option (List Change)) (before after : Moment) (input : Option (List ℕ)) (ending : Ending) (answers : List Answered) : Type 0 where
   pub lines : List (List ℕ)
   pub first_lines : IfSome input (λ (bytes : List ℕ). lines ≡ take (length answers) (lines_of bytes))
-  pub fit : AnswersFit now opening journal 0 0 lines answers
-  pub rest : IsUnfinished now opening (take (length opening + last_seq 0 answers) journal) journal
-
-abbrev pub HistoryIf : ℕ → Option (List Change) → Option (List Change) → Option (List ℕ) → List Answered → Type 0
-HistoryIf now (Some opening) (Some journal) input answers = IsHistory now opening journal input answers
-HistoryIf now (Some opening) None input answers = ⊥
-HistoryIf now None journal input answers = ⊥
-
--- each change is one of an ask that was answered
-abbrev pub AllAnsweredIf : Option (List Change) → Option (List Change) → List Answered → Type 0
-AllAnsweredIf (Some opening) (Some journal) answers = length journal ≡ length opening + last_seq 0 answers
-AllAnsweredIf (Some opening) None answers = ⊥
-AllAnsweredIf None journal answers = ⊥
+  pub during : Moment
+  pub fit : AnswersFit opening 0 lines answers before during
+  pub left : IsLeftBy ending opening (length answers) during after
 
 -- the line that is written for an answer
 abbrev pub printed : Answered → List ℕ
@@ -86,3 +73,9 @@ printed a = reply_text a.reply a.seq ++ 10 ∷ []
 -- what is written for the answers
 abbrev pub printed_replies : List Answered → List ℕ
 printed_replies answers = flat_map printed answers
+
+-- ---- for private clauses
+
+-- the answer to each line that this one stands for
+abbrev pub AnswersTaken : Option (List Change) → ℕ → Line → Moment → Moment → Answered → Type 0
+AnswersTaken opening number line before after answered = (bytes : List ℕ) → IsLine line bytes → IsAnswerOf opening number bytes before after answered

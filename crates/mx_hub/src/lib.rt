@@ -2,10 +2,15 @@
 //!
 //! | call | contract |
 //! |---|---|
-//! | `serve` | the answers are one history of the lines, and the bytes written are their replies |
+//! | `drive` | the change in doubt is settled, then the ask is answered (`specs/Answers.antt`, `IsAnswered`) |
+//! | `serve` | the answers are one history of the lines (`specs/History.antt`, `IsHistory`), and the bytes written are their replies |
 #![tactic(auto)]
 
-mod answer;
+mod answered;
+mod asks;
+mod line;
 mod serving;
 
-pub use serving::{Served, Status, serve};
+pub use answered::Answered;
+pub use asks::drive;
+pub use serving::{Ending, Served, serve};

@@ -1,12 +1,15 @@
 -- What is read of the logs is what the commits list.
-use Rattle.std.proofs.Common.{◌≡◌, ℕ, zero, suc, Bool, true, false, cond, List, [], ◌∷◌, ◌++◌, Option, Some, None, IsSome, IfSome, is_some, refl, sym, ◌∙◌, ap, subst, append_assoc}
+use Rattle.std.proofs.Common.{◌≡◌, ℕ, zero, suc, Bool, true, false, cond, List, [], ◌∷◌, ◌++◌, Option, Some, None, IsSome, IfSome, is_some, refl, sym, ◌∙◌, ap, subst, append_assoc, arith}
 use Rattle.std.specs.Prelude.{option_and_then, unwrap_or}
 use Rattle.std.specs.List.{flat_map}
 use Rattle.std.specs.FinMap as finmap
+use Rattle.std.specs.Option.{option_map_or}
 use Rattle.std.proofs.lemmas.Grind.{flat_map-append}
 use Rattle.mx_base.specs.Objects.{object_path}
 use Rattle.mx_base.proofs.ObjectLemmas.{object_path-injective}
 use Rattle.mx_meta.specs.AddedText.{added_of}
+use Rattle.mx_meta.specs.ShardFiles.{base_meta_of}
+use Rattle.mx_meta.specs.Views.{Bases}
 use Rattle.mx_meta.specs.declared.added.AddedFile.{AddedFile}
 use Rattle.mx_ask.specs.declared.reply.FileSize.{FileSize}
 use Rattle.mx_ask.specs.declared.reply.Reply.TheVariants.{Files}
@@ -17,7 +20,7 @@ use Rattle.mx_model.specs.Maps.{NumberMap, FilesMap, files_map, sizes_in}
 use Rattle.mx_model.proofs.MapLemmas.{sizes_in-files_map}
 use Rattle.mx_store.specs.declared.change.Change.{Change}
 use Rattle.mx_store.specs.Objects.{Objects, objects_of}
-use Rattle.mx_folder.specs.Named.{object_at, commit_name, log_name}
+use Rattle.mx_folder.specs.Named.{object_at, commit_name, first_bases, log_name}
 use Rattle.mx_folder.specs.Actions.{IsCompleted, action_at, actions_upto, added_at, logged_files}
 use Rattle.mx_folder.specs.Completed.{completed_upto}
 use Rattle.mx_folder.specs.Folder.{IsOpenable, IsValidTable}
@@ -26,10 +29,10 @@ use Rattle.mx_folder.proofs.ActionLemmas.{action_at-some}
 use Rattle.mx_folder.proofs.CompletedLemmas.{logged_completed}
 use Rattle.mx_folder.proofs.NamedLemmas.{object_at-is, object_at-stands, object_at-some, is_some_same}
 use Rattle.mx_folder.proofs.PendingLemmas.{hidden_object}
-use Rattle.mx_mirror.specs.declared.mirror.Mirror.{Mirror}
-use Rattle.mx_mirror.specs.Mirror.{IsMirrorOf}
-use Rattle.mx_mirror.specs.State.{Stands}
-use Rattle.mx_lookup.specs.Looking.{IsPinned, ReadsAll, log_paths, IsLookedUp, words_at, sizes_of, AreSizes}
+use Rattle.mx_world.specs.declared.mirror.Mirror.{Mirror}
+use Rattle.mx_world.specs.Mirror.{IsMirrorOf}
+use Rattle.mx_world.specs.State.{Stands}
+use Rattle.mx_lookup.specs.Looking.{IsPinned, floor, ReadsAll, log_paths, IsLookedUp, words_at, sizes_of, AreSizes}
 
 pub reads_more : (front : List (List ℕ)) (path : List ℕ) (before during after : Option (List (List ℕ))) → ReadsAll front before during → ReadsAll (path ∷ []) during after → ReadsAll (front ++ path ∷ []) before after
 reads_more front path None during after first second = subst (λ (d : Option (List (List ℕ))). ReadsAll (path ∷ []) d after) first second
@@ -54,19 +57,31 @@ words_same o (suc at) =
     step true stands = ap (λ (fs : List AddedFile). fs ++ []) (same_words o (suc at) stands)
     step false absent = refl
 
+-- what stands at the name of an object reads as it
+reads_at : (o : Objects) → IsOpenable o → (name : ObjectName) (bytes : List ℕ) → object_at o name ≡ Some bytes → Reads o name bytes
+reads_at o opens name bytes stands =
+    let found = object_at-some o name bytes stands in
+    let object = (opens.sound (object_path name)).object bytes (hidden_object name) found.1 in
+    subst (λ (other : ObjectName). Reads o other bytes) (sym (object_path-injective name object.name found.0 object.is_name object.path_is)) object.reads
+
+-- the one base has nothing behind the instant 0
+floor_is : (o : Objects) → IsOpenable o → floor o ≡ 0
+floor_is o opens = from (object_at o first_bases) refl
+  where
+    from : (x : Option (List ℕ)) → object_at o first_bases ≡ x → floor o ≡ 0
+    from None absent = ap (λ (x : Option (List ℕ)). option_map_or (λ (bases : Bases). bases.upto) (option_and_then base_meta_of x) 0) absent
+    from (Some bytes) stands =
+        let reads = reads_at o opens first_bases bytes stands in
+        ap (λ (x : Option (List ℕ)). option_map_or (λ (bases : Bases). bases.upto) (option_and_then base_meta_of x) 0) stands
+        ∙ ap (λ (x : Option Bases). option_map_or (λ (bases : Bases). bases.upto) x 0) reads.1
+
 -- in a folder that opens each completed commit reads
 completed_reads : (o : Objects) → IsOpenable o → (at : ℕ) → IsCompleted o at → IsSome (action_at o at)
 completed_reads o opens at done = from (object_at o (commit_name at)) refl
   where
-    read : (bytes : List ℕ) → object_at o (commit_name at) ≡ Some bytes → Reads o (commit_name at) bytes
-    read bytes stands =
-        let found = object_at-some o (commit_name at) bytes stands in
-        let object = (opens.sound (object_path (commit_name at))).object bytes (hidden_object (commit_name at)) found.1 in
-        subst (λ (name : ObjectName). Reads o name bytes) (sym (object_path-injective (commit_name at) object.name found.0 object.is_name object.path_is)) object.reads
-
     from : (x : Option (List ℕ)) → object_at o (commit_name at) ≡ x → IsSome (action_at o at)
     from None absent = absurd (cc (sym (ap is_some absent) ∙ done))
-    from (Some bytes) stands = let reads = read bytes stands in is_some_same _ _ (action_at-some o at bytes reads.0 stands reads.1) refl
+    from (Some bytes) stands = let reads = reads_at o opens (commit_name at) bytes stands in is_some_same _ _ (action_at-some o at bytes reads.0 stands reads.1) refl
 
 valid_sizes : (o : Objects) → IsValidTable o → (partition : List ℕ) (at : ℕ) → sizes_of partition finmap.empty (flat_map (words_at o) (completed_upto o at)) ≡ sizes_in (files_map (listed_files (actions_upto o at))) partition
 valid_sizes o valid partition at =
@@ -80,6 +95,7 @@ module _ (o : Objects) (m : Mirror) (is : IsMirrorOf o m) (partition : List ℕ)
   looked_up pinned listed logged reads shown = record {
     at = at;
     pinned = pinned o is;
+    retained = λ valid. let low = floor_is o valid.opens in omega (arith, low);
     answer = λ valid.
         ap (λ (fs : List FileSize). Files at fs) shown
         ∙ ap (λ (s : NumberMap). Files at (file_sizes s)) (logged ∙ ap (λ (ts : List ℕ). sizes_of partition finmap.empty (flat_map (words_at o) ts)) (listed o is) ∙ valid_sizes o valid partition at);

@@ -3,31 +3,32 @@ ghost use Rattle.mx_base.specs.Objects.{object_path};
 ghost use Rattle.mx_folder.specs.Named as named;
 ghost use Rattle.mx_folder.specs.Named.{log_name};
 ghost use Rattle.mx_model.specs.Maps.{with_file_in};
-ghost use Rattle.mx_mirror.specs.Mirror.{IsMirrorOf};
-ghost use Rattle.mx_mirror.specs.State.{standing};
+ghost use Rattle.mx_world.specs.Mirror.{IsMirrorOf};
+ghost use Rattle.mx_world.specs.State.{standing};
 ghost use Rattle.mx_store.specs.Calls.{Counts};
 ghost use Rattle.mx_store.specs.Objects.{Objects, objects_of};
-ghost use Rattle.mx_lookup.specs.Looking.{AreSizes, IsLookedUp, IsPinned, ReadsAll, log_paths, sizes_of, words_at};
+ghost use Rattle.mx_lookup.specs.Looking.{AreFiles, AreSizes, IsLookedUp, IsPinned, ReadsAll, log_paths, sizes_of, words_at};
 
 use mx_ask::Reply;
 use mx_base::{Instant, ObjectName, Part, Partition, Path};
 use mx_lists::Listed;
 use mx_meta::{AddedFile, AddedLog};
-use mx_mirror::{Mirror, Mirrored};
 use mx_model::Numbers;
 use mx_store::{Named, Store, StoreError};
+use mx_world::{Mirror, World};
 use std::alloc::{AllocError, Global};
 
 /// The files of a partition at an instant, or at the newest completed commit where none is asked for. The logs of the completed
 /// commits up to it are read, each once, and no other object.
 pub fn files<S: Store, N: Named>(
     alloc: Global,
-    table: &mut Mirrored<S, N>,
+    table: &mut World<S, N>,
     partition: &Partition,
     asked: Option<Instant>,
 ) -> Result<Reply, StoreError>
     requires sure { table.old.doubt ≡ None }
     ensures answer { IfOk result (λ reply. IfSome (S.journal table.old.store) (λ j. IsLookedUp (objects_of j) partition.now asked reply (S.reads table.old.store) (S.reads table.new.store))) }
+    ensures files { IfOk result AreFiles }
     ensures same { standing S.journal table.new ≡ standing S.journal table.old }
     ensures mirror { table.new.mirror ≡ table.old.mirror }
     ensures faults { Counts (S.faults table.old.store) (S.faults table.new.store) result }
@@ -51,7 +52,7 @@ fn pinned(mirror: &Mirror, asked: Option<Instant>) -> Instant
 // The names and sizes of a partition that the logs of these instants add.
 fn sizes_logged<S: Store, N: Named>(
     alloc: Global,
-    table: &mut Mirrored<S, N>,
+    table: &mut World<S, N>,
     partition: &Partition,
     instants: &[Instant],
 ) -> Result<Numbers, StoreError>
@@ -72,7 +73,7 @@ fn sizes_logged<S: Store, N: Named>(
 // The files that the log of an instant adds.
 fn words_logged<S: Store, N: Named>(
     alloc: Global,
-    table: &mut Mirrored<S, N>,
+    table: &mut World<S, N>,
     at: Instant,
 ) -> Result<Listed<AddedFile>, StoreError>
     ensures words { IfOk result (λ words. IfSome (S.journal table.old.store) (λ j. words ≡ words_at (objects_of j) at)) }

@@ -4,10 +4,10 @@ use crate::files;
 use mx_ask::{FileSize, Reply};
 use mx_base::{Instant, Part, Partition, Path};
 use mx_lists::{Bytes, Listed};
-use mx_mirror::{Mirror, Mirrored};
 use mx_props::Props;
 use mx_schema::Schema;
 use mx_store::{MemStore, Store, StoreError};
+use mx_world::{Mirror, World};
 use std::alloc::Global;
 use std::marker::Brand;
 use std::test::Fail;
@@ -95,7 +95,7 @@ fn instant(number: u64) -> Result<Instant, Fail> {
 }
 
 // A table of the first so many objects, whose store's call of this number behind their creates fails.
-fn table(alloc: Global, count: usize, failing: u64) -> Result<Mirrored<Quiet, Brand>, Fail>
+fn table(alloc: Global, count: usize, failing: u64) -> Result<World<Quiet, Brand>, Fail>
     ensures sure { IfOk result (λ table. table.doubt ≡ None) }
 {
     let mut inner = MemStore::empty(alloc);
@@ -106,14 +106,14 @@ fn table(alloc: Global, count: usize, failing: u64) -> Result<Mirrored<Quiet, Br
         paths.push(path)?;
     }
     inner.fail((count as u64).saturating_add(failing), false)?;
-    let mirror = Mirror::of(alloc, config(alloc)?, paths.as_slice())?;
-    Ok(Mirrored::over(Quiet { inner }, mirror, instant(FIRST + 2)?, 0))
+    let mirror = Mirror::of(alloc, config(alloc)?, paths.as_slice(), &[])?;
+    Ok(World::over(Quiet { inner }, mirror, instant(FIRST + 2)?, 0))
 }
 
 // The instant that was looked up, and the sizes that were found in the order of their names; 9 stands for a failed look-up.
 fn sizes_at(
     alloc: Global,
-    table: &mut Mirrored<Quiet, Brand>,
+    table: &mut World<Quiet, Brand>,
     partition: &str,
     asked: Option<Instant>,
 ) -> Result<(u64, u64, u64), Fail>

@@ -19,6 +19,7 @@ use Rattle.mx_folder.proofs.NamedLemmas.{object_at-same, is_some_same}
 use Rattle.mx_folder.proofs.PendingLemmas.{hidden_object, outside_loose}
 use Rattle.mx_folder.proofs.ReadingLemmas.{available_from, named_bases-same, reads_same}
 use Rattle.mx_open.specs.Deciding.{Adds, AreHeld, IsFine, IsUnharmed}
+use Rattle.mx_open.specs.Leaving.{AreNamesOf}
 use Rattle.mx_open.specs.Opening.{IsCurrent, Opens, OpensHeld}
 use Rattle.mx_open.specs.declared.error.ReadError.{ReadError}
 use Rattle.mx_open.specs.declared.error.ReadError.TheVariants.{NotATable, Version, Damaged, StoreFault, NoMemory}
@@ -170,9 +171,12 @@ module _ (h o : Objects) (inner : (q : List ℕ) → IsHidden q → at_path h q 
 config_up : (h o : Objects) → object_at h Config ≡ object_at o Config → IsCurrent h → IsCurrent o
 config_up h o same current = record { stands = is_some_same _ _ (sym same) current.stands; version = λ found other. current.version found (other.0, same ∙ other.1, other.2) }
 
+names_of : (h o : Objects) (names : List (List ℕ)) → ((q : List ℕ) → IsHidden q → at_path h q ≡ at_path o q) → ((q : List ℕ) → is_hidden q ≡ false → at_path h q ≡ None) → names ≡ filter is_hidden (finmap.keys o) → AreNamesOf o h names
+names_of h o names inner outer all = record { all = all; same = name_same h o inner outer }
+
 opens_up : (h o : Objects) (names others paths : List (List ℕ)) (r : Result Folder ReadError) → ((q : List ℕ) → IsHidden q → at_path h q ≡ at_path o q) → ((q : List ℕ) → is_hidden q ≡ false → at_path h q ≡ None) → paths ≡ finmap.keys o →
     names ≡ filter is_hidden paths → others ≡ filter (λ path. not (is_hidden path)) paths → OpensHeld h names others r → Opens o r
-opens_up h o names others paths (Ok folder) inner outer keys hidden rest (all, current, said, same_names, same_others, pending) = (
+opens_up h o names others paths (Ok folder) inner outer keys hidden rest (all, current, said, same_names, same_others, pending, commits) = (
   record {
     config = is_some_same _ _ (sym (name_same h o inner outer Config)) current.stands;
     sound = λ q. sound_up h o inner outer q (all q);
@@ -181,7 +185,8 @@ opens_up h o names others paths (Ok folder) inner outer keys hidden rest (all, c
     config = sym (name_same h o inner outer Config) ∙ said;
     names = same_names ∙ hidden ∙ ap (λ (ps : List (List ℕ)). filter is_hidden ps) keys;
     others = same_others ∙ rest ∙ ap (λ (ps : List (List ℕ)). filter (λ path. not (is_hidden path)) ps) keys;
-    pending = pending o (record { all = hidden ∙ ap (λ (ps : List (List ℕ)). filter is_hidden ps) keys; same = name_same h o inner outer });
+    pending = pending o (names_of h o names inner outer (hidden ∙ ap (λ (ps : List (List ℕ)). filter is_hidden ps) keys));
+    commits = commits o (names_of h o names inner outer (hidden ∙ ap (λ (ps : List (List ℕ)). filter is_hidden ps) keys));
   },
 )
 opens_up h o names others paths (Err NotATable) inner outer keys hidden rest absent = sym (name_same h o inner outer Config) ∙ absent

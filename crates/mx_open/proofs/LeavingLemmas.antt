@@ -60,7 +60,7 @@ not_true false is holds = absurd (cc holds)
 nat_eq-is : (a b : ℕ) → nat_eq a b ≡ true → a ≡ b
 nat_eq-is a b is = grind (arith, nat_tests)
 
-nat_eq-self : (a : ℕ) → nat_eq a a ≡ true
+pub nat_eq-self : (a : ℕ) → nat_eq a a ≡ true
 nat_eq-self a = grind (arith, nat_tests)
 
 -- ---- the commit that a path begins
@@ -86,7 +86,7 @@ path_inflight q path named is =
 
 -- ---- the commit that a path completes
 
-commit_is : (path : List ℕ) (q : ℕ) → is_at q (commit_instant path) ≡ true → IsObjectName (commit_name q) × (path ≡ object_path (commit_name q))
+pub commit_is : (path : List ℕ) (q : ℕ) → is_at q (commit_instant path) ≡ true → IsObjectName (commit_name q) × (path ≡ object_path (commit_name q))
 commit_is path q test = from (commit_instant path) refl test
   where
     from : (found : Option ℕ) → commit_instant path ≡ found → is_at q found ≡ true → IsObjectName (commit_name q) × (path ≡ object_path (commit_name q))
@@ -95,12 +95,13 @@ commit_is path q test = from (commit_instant path) refl test
         let found = IsCommitAt-commit_instant path q (is ∙ ap (λ (x : ℕ). Some x) (nat_eq-is n q test)) in
         (both (nat_lt 0 q) (is_instant q) ((Decides-ltb 0 q).1 found.positive) ((Decides-ltb q (10 ^ 17)).1 found.small), found.is ∙ sym (object_path-commit q))
 
-is_commit : (q : ℕ) → IsObjectName (commit_name q) → is_at q (commit_instant (object_path (commit_name q))) ≡ true
-is_commit q named =
+pub commit_instant-named : (q : ℕ) → IsObjectName (commit_name q) → commit_instant (object_path (commit_name q)) ≡ Some q
+commit_instant-named q named =
     let parts = and_parts (nat_lt 0 q) (is_instant q) named in
-    ap (λ (p : List ℕ). is_at q (commit_instant p)) (object_path-commit q)
-    ∙ ap (is_at q) (commit_instant-commit_path q ((Decides-ltb 0 q).0 parts.0) ((Decides-ltb q (10 ^ 17)).0 parts.1))
-    ∙ nat_eq-self q
+    ap commit_instant (object_path-commit q) ∙ commit_instant-commit_path q ((Decides-ltb 0 q).0 parts.0) ((Decides-ltb q (10 ^ 17)).0 parts.1)
+
+is_commit : (q : ℕ) → IsObjectName (commit_name q) → is_at q (commit_instant (object_path (commit_name q))) ≡ true
+is_commit q named = ap (is_at q) (commit_instant-named q named) ∙ nat_eq-self q
 
 -- ---- the instants that the names of a folder tell
 
@@ -116,7 +117,7 @@ module _ (o : Objects) (names : List (List ℕ)) (all : names ≡ filter is_hidd
   stands_named : (name : ObjectName) (path : List ℕ) → IsObjectName name → path ≡ object_path name → Contains names path → IsSome (object_at o name)
   stands_named name path named is among = is_some_same _ _ (object_at-is o name named ∙ ap (at_path o) (sym is)) (of_names path among)
 
-  named_among : (name : ObjectName) → IsSome (object_at o name) → IsObjectName name × Contains names (object_path name)
+  pub named_among : (name : ObjectName) → IsSome (object_at o name) → IsObjectName name × Contains names (object_path name)
   named_among name stands = let found = object_at-stands o name stands in (found.0, in_names (object_path name) (hidden_object name) found.1)
 
   module _ (completed : BTreeSet ℕ) (noted : (q : ℕ) → contains nat_cmp completed q ≡ list_any (λ path. is_at q (commit_instant path)) names) where

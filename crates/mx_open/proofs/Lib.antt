@@ -8,3 +8,4 @@ pub mod FaultLemmas
 pub mod OpeningLemmas
 pub mod HeldLemmas
 pub mod LeavingLemmas
+pub mod CommitLemmas

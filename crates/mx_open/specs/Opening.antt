@@ -15,19 +15,21 @@ use Rattle.mx_store.specs.declared.store.StoreError.TheVariants as store
 use Rattle.mx_folder.specs.Named.{object_at, is_hidden}
 use Rattle.mx_folder.specs.Folder.{IsSound, ShowsDamage, IsOpenable}
 use Rattle.mx_folder.specs.Pending.{ArePending}
+use Rattle.mx_groups.specs.Groups.{AreCommits}
 use Rattle.mx_open.specs.Deciding.{IsLeastOther, IsUnharmed}
 use Rattle.mx_open.specs.Leaving.{AreNamesOf}
 use Rattle.mx_open.specs.declared.error.ReadError.{ReadError}
 use Rattle.mx_open.specs.declared.error.ReadError.TheVariants.{NotATable, Version, Damaged, StoreFault, NoMemory}
 use Rattle.mx_open.specs.declared.folder.Folder.{Folder}
 
--- what the opening gives of a folder: what its config says, the paths below `.hoodie/` and the others, both in byte order, and
--- its pending commits
+-- what the opening gives of a folder: what its config says, the paths below `.hoodie/` and the others, both in byte order, its
+-- pending commits and its completed ones
 pub record IsFolderOf (objects : Objects) (folder : Folder) : Type 0 where
   pub config : object_at objects Config ≡ Some (config_text folder.config)
   pub names : folder.names ≡ filter is_hidden (finmap.keys objects)
   pub others : folder.others ≡ filter (λ path. not (is_hidden path)) (finmap.keys objects)
   pub pending : ArePending objects folder.pending
+  pub commits : AreCommits objects folder.commits
 
 -- the config is of another version
 abbrev pub IsOfVersion : Objects → ℕ → Type 0
@@ -83,6 +85,7 @@ abbrev pub OpensHeld : Objects → List (List ℕ) → List (List ℕ) → Resul
 OpensHeld held names others (Ok folder) =
     ((path : List ℕ) → IsUnharmed held path) × IsCurrent held × (object_at held Config ≡ Some (config_text folder.config)) × (folder.names ≡ names) × (folder.others ≡ others)
     × ((objects : Objects) → AreNamesOf objects held names → ArePending objects folder.pending)
+    × ((objects : Objects) → AreNamesOf objects held names → AreCommits objects folder.commits)
 OpensHeld held names others (Err NotATable) = object_at held Config ≡ None
 OpensHeld held names others (Err (Version found)) = IsOfVersion held found
 OpensHeld held names others (Err (Damaged path)) = IsCurrent held × IsLeastOther (IsUnharmed held) (Some path)

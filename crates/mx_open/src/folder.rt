@@ -6,6 +6,7 @@ ghost use Rattle.mx_store.specs.Objects.{Objects, at_path, objects_of};
 ghost use Rattle.mx_open.specs.Deciding.{Adds, AreBases, AreHeld, IsContext, IsSaid, available_of};
 ghost use Rattle.mx_open.specs.Opening.{Opens, OpensHeld, CountsRead, SaysConfig};
 
+use crate::completed::completed_actions;
 use crate::context::Context;
 use crate::error::ReadError;
 use crate::faults::least_damaged;
@@ -16,6 +17,7 @@ use mx_base::{ObjectName, Part, Path};
 use mx_folder::Pending;
 use mx_lists::{Bytes, Listed};
 use mx_meta::{BaseMeta, MetaError};
+use mx_model::Action;
 use mx_props::{Props, PropsError};
 use mx_store::{Store, StoreError};
 use std::alloc::{AllocError, Global};
@@ -30,6 +32,8 @@ pub struct Folder {
     pub others: Listed<Path>,
     /// The commits that are begun and not completed, by rising instant.
     pub pending: Listed<Pending>,
+    /// The completed commits, each with what its object says.
+    pub commits: Listed<Action>,
 }
 
 /// What the config says, where it reads.
@@ -206,12 +210,14 @@ fn open_held(
         return Err(ReadError::Damaged { path });
     }
     let pending = pending_commits(alloc, held, names.as_slice())?;
+    let commits = completed_actions(alloc, held, names.as_slice())?;
     match config {
         Some(config) => Ok(Folder {
             config,
             names,
             others,
             pending,
+            commits,
         }),
         None => unreachable!(),
     }

@@ -3,13 +3,15 @@
 //! | call | contract |
 //! |---|---|
 //! | `init` | makes exactly the objects of a new table in a folder that holds nothing, and leaves a valid one without commits; else the first path that stands (`specs/Init.antt`) |
-//! | `read_folder` | what a folder holds, exactly where it opens; else the first cause: no config, another version, the least path that shows damage (`specs/Opening.antt`) |
+//! | `read_folder` | what a folder holds, its pending and its completed commits, exactly where it opens; else the first cause: no config, another version, the least path that shows damage (`specs/Opening.antt`) |
 //!
 //! `mx_folder` says when a folder opens. The objects below `.hoodie/` are read once each and held until the damage is
 //! looked for: first each object by its name (`src/objects.rt`), then what is needed and missing (`src/faults.rt`). A folder
-//! that opens tells its pending commits as well, by the names and the lists of files that are held (`src/pending.rt`).
+//! that opens tells its pending commits as well, by the names and the lists of files that are held (`src/pending.rt`), and what
+//! the objects of its completed commits say (`src/completed.rt`).
 #![tactic(auto)]
 
+mod completed;
 mod context;
 mod error;
 mod faults;

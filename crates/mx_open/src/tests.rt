@@ -1,10 +1,10 @@
 use crate::{InitError, ReadError, init, read_folder};
-use mx_base::Path;
-use mx_lists::Text;
+use mx_base::{FileId, Path};
+use mx_meta::{CommitMeta, WriteStat};
+use mx_model::Action;
 use mx_schema::Schema;
 use mx_store::{Change, MemStore, Store};
-use std::alloc::{AllocError, Global};
-use std::process::Abort;
+use std::alloc::Global;
 use std::test::Fail;
 
 // The paths and bytes of a new table, in the order in which they are made.
@@ -27,34 +27,43 @@ const NEW_TABLE: [(&str, &str); 4] = [
     ),
 ];
 
-// What `init` says: the path that stands, or another word.
-fn said(alloc: Global, ended: Result<(), InitError>) -> Result<Text, AllocError> {
+// Whether `init` says this: the path that stands, or another word.
+fn is_said(ended: &Result<(), InitError>, word: &str) -> bool {
     match ended {
-        Ok(()) => Text::from_str(alloc, "made"),
-        Err(InitError::NotEmpty { path }) => Text::from_str(alloc, path.as_str()),
-        Err(InitError::StoreFault) => Text::from_str(alloc, "fault"),
-        Err(InitError::NoMemory) => Text::from_str(alloc, "no memory"),
+        Ok(()) => word == "made",
+        Err(InitError::NotEmpty { path }) => path.as_str() == word,
+        Err(InitError::StoreFault) => word == "fault",
+        Err(InitError::NoMemory) => word == "no memory",
     }
 }
 
-// Runs `init` with one column of whole numbers, and gives what it says.
-fn begun<R: Abort + AllocGlobal>(rt: &R, store: &mut MemStore) -> Result<Text, Fail> {
-    let alloc = rt.alloc();
-    let schema = Schema::parse(alloc, "a:int64").ok().expect(rt, "a schema");
-    Ok(said(alloc, init(alloc, store, &schema))?)
+// Runs `init` with one column of whole numbers, and tells whether it says this.
+fn begins(alloc: Global, store: &mut MemStore, word: &str) -> Result<bool, Fail> {
+    let Ok(schema) = Schema::parse(alloc, "a:int64") else {
+        return Err(Fail::new("the schema is one"));
+    };
+    Ok(is_said(&init(alloc, store, &schema), word))
 }
 
-// The store holds the first so many objects of a new table, made in their order.
-fn expect_made<R: Abort>(rt: &R, store: &MemStore, count: usize) {
-    assert_eq!(rt; store.journal().len(), count);
-    for (change, (path, text)) in store.journal().iter().zip(NEW_TABLE) {
-        match change {
-            Change::Create { path: made, bytes } => {
-                assert_eq!(rt; made.as_str(), path);
-                assert_eq!(rt; bytes.as_slice(), text.as_bytes(), "at {path}");
-            }
-            _ => assert!(rt; false, "a change that makes nothing"),
+// Whether the store holds the first so many objects of a new table, made in their order.
+fn holds_front(store: &MemStore, count: usize) -> bool {
+    if store.journal().len() != count {
+        return false;
+    }
+    for (change, object) in store.journal().iter().zip(NEW_TABLE) {
+        if !is_made(change, object) {
+            return false;
         }
+    }
+    true
+}
+
+fn is_made(change: &Change, object: (&str, &str)) -> bool {
+    match change {
+        Change::Create { path, bytes } => {
+            path.as_str() == object.0 && bytes.as_slice() == object.1.as_bytes()
+        }
+        _ => false,
     }
 }
 
@@ -62,11 +71,27 @@ fn expect_made<R: Abort>(rt: &R, store: &MemStore, count: usize) {
 fn a_new_table_is_four_objects_of_which_the_config_is_the_last(
     rt: HostRuntime,
 ) -> Result<(), Fail> {
-    let mut store = MemStore::empty(rt.alloc());
-    let said = begun(&rt, &mut store)?;
-    assert_eq!(rt; said.as_str(), "made");
-    expect_made(&rt, &store, 4);
+    let alloc = rt.alloc();
+    let mut store = MemStore::empty(alloc);
+    let made = begins(alloc, &mut store, "made")?;
+    assert!(rt; made && holds_front(&store, 4));
     Ok(())
+}
+
+fn add(alloc: Global, store: &mut MemStore, path: &str) -> Result<(), Fail> {
+    let path = Path::parse(alloc, path)?;
+    match store.create(alloc, &path, b"x") {
+        Ok(true) => Ok(()),
+        _ => Err(Fail::new("an object is made")),
+    }
+}
+
+fn three_objects(alloc: Global) -> Result<MemStore, Fail> {
+    let mut store = MemStore::empty(alloc);
+    add(alloc, &mut store, "b/1")?;
+    add(alloc, &mut store, "a/2")?;
+    add(alloc, &mut store, "a/10")?;
+    Ok(store)
 }
 
 #[test]
@@ -74,28 +99,28 @@ fn a_folder_that_is_not_empty_is_named_by_its_first_path_and_kept(
     rt: HostRuntime,
 ) -> Result<(), Fail> {
     let alloc = rt.alloc();
-    let mut store = MemStore::empty(alloc);
-    for path in ["b/1", "a/2", "a/10"] {
-        store
-            .create(alloc, &Path::parse(alloc, path)?, b"x")
-            .ok()
-            .expect(&rt, "an answer");
-    }
-    let said = begun(&rt, &mut store)?;
-    assert_eq!(rt; said.as_str(), "a/10");
-    assert_eq!(rt; store.journal().len(), 3);
+    let mut store = three_objects(alloc)?;
+    let named = begins(alloc, &mut store, "a/10")?;
+    assert!(rt; named && store.journal().len() == 3);
     Ok(())
 }
 
 #[test]
 fn a_table_that_stands_is_named_by_its_config(rt: HostRuntime) -> Result<(), Fail> {
-    let mut store = MemStore::empty(rt.alloc());
-    let first = begun(&rt, &mut store)?;
-    let second = begun(&rt, &mut store)?;
-    assert_eq!(rt; first.as_str(), "made");
-    assert_eq!(rt; second.as_str(), ".hoodie/hoodie.properties");
-    expect_made(&rt, &store, 4);
+    let alloc = rt.alloc();
+    let mut store = MemStore::empty(alloc);
+    let made = begins(alloc, &mut store, "made")?;
+    let named = begins(alloc, &mut store, ".hoodie/hoodie.properties")?;
+    assert!(rt; made && named && holds_front(&store, 4));
     Ok(())
+}
+
+// Whether a new table of which this call fails says so and holds its first so many objects.
+fn ends_at(alloc: Global, call: u64, applied: bool, made: usize) -> Result<bool, Fail> {
+    let mut store = MemStore::empty(alloc);
+    store.fail(call, applied)?;
+    let fault = begins(alloc, &mut store, "fault")?;
+    Ok(fault && holds_front(&store, made))
 }
 
 #[test]
@@ -113,71 +138,76 @@ fn a_call_that_fails_leaves_the_first_objects_of_a_new_table(rt: HostRuntime) ->
         (4, true, 4),
     ];
     for (call, applied, made) in cases {
-        let mut store = MemStore::empty(alloc);
-        store.fail(call, applied)?;
-        let said = begun(&rt, &mut store)?;
-        assert_eq!(rt; said.as_str(), "fault", "at {call}");
-        expect_made(&rt, &store, made);
+        let ends = ends_at(alloc, call, applied, made)?;
+        assert!(rt; ends, "at {call}");
     }
     Ok(())
 }
 
-// What the opening says: the paths of the folder with a space behind each, or another word and the path that is damaged.
-fn opened(alloc: Global, store: &mut MemStore) -> Result<String, Fail> {
-    let mut said = String::new(alloc);
+// Whether the folder is not read, and this is why: the path that is damaged, or another word.
+fn is_refused(alloc: Global, store: &mut MemStore, word: &str) -> bool {
+    match read_folder(alloc, store) {
+        Ok(_) => false,
+        Err(why) => is_reason(&why, word),
+    }
+}
+
+fn is_reason(why: &ReadError, word: &str) -> bool {
+    match why {
+        ReadError::NotATable => word == "no table",
+        ReadError::Version { found } => *found == 5 && word == "version 5",
+        ReadError::Damaged { path } => path.as_str() == word,
+        ReadError::StoreFault => word == "fault",
+        ReadError::NoMemory => word == "no memory",
+    }
+}
+
+// Whether the folder is read, and these are its paths.
+fn holds(alloc: Global, store: &mut MemStore, names: &[&str], others: &[&str]) -> bool {
     match read_folder(alloc, store) {
         Ok(folder) => {
-            for path in folder
-                .names
-                .as_slice()
-                .iter()
-                .chain(folder.others.as_slice())
-            {
-                said.push_str(path.as_str())?;
-                said.push(' ')?;
-            }
+            are_paths(folder.names.as_slice(), names) && are_paths(folder.others.as_slice(), others)
         }
-        Err(ReadError::NotATable) => said.push_str("no table")?,
-        Err(ReadError::Version { found }) => said = format!(in alloc; "version {found}")?,
-        Err(ReadError::Damaged { path }) => said.push_str(path.as_str())?,
-        Err(ReadError::StoreFault) => said.push_str("fault")?,
-        Err(ReadError::NoMemory) => said.push_str("no memory")?,
+        Err(_) => false,
     }
-    Ok(said)
 }
 
-fn put<R: Abort + AllocGlobal>(
-    rt: &R,
-    store: &mut MemStore,
-    path: &str,
-    text: &str,
-) -> Result<(), Fail> {
-    let alloc = rt.alloc();
-    let path = Path::parse(alloc, path)?;
-    store
-        .put(alloc, &path, text.as_bytes())
-        .ok()
-        .expect(rt, "an answer");
+fn are_paths(paths: &[Path], expected: &[&str]) -> bool {
+    if paths.len() != expected.len() {
+        return false;
+    }
+    for (path, text) in paths.iter().zip(expected) {
+        if path.as_str() != *text {
+            return false;
+        }
+    }
+    true
+}
+
+fn put(alloc: Global, store: &mut MemStore, object: (&str, &str)) -> Result<(), Fail> {
+    let path = Path::parse(alloc, object.0)?;
+    match store.put(alloc, &path, object.1.as_bytes()) {
+        Ok(()) => Ok(()),
+        Err(_) => Err(Fail::new("the bytes are put")),
+    }
+}
+
+fn put_all(alloc: Global, store: &mut MemStore, objects: &[(&str, &str)]) -> Result<(), Fail> {
+    for object in objects {
+        put(alloc, store, *object)?;
+    }
     Ok(())
 }
 
-// A new table, and in it these two objects; an empty path is none.
-fn table_with<R: Abort + AllocGlobal>(
-    rt: &R,
-    one: (&str, &str),
-    other: (&str, &str),
-) -> Result<MemStore, Fail> {
-    let mut store = MemStore::empty(rt.alloc());
-    begun(rt, &mut store)?;
-    for (path, text) in [one, other] {
-        if !path.is_empty() {
-            put(rt, &mut store, path, text)?;
-        }
+// A new table, and in it these objects.
+fn table_with(alloc: Global, objects: &[(&str, &str)]) -> Result<MemStore, Fail> {
+    let mut store = MemStore::empty(alloc);
+    if !begins(alloc, &mut store, "made")? {
+        return Err(Fail::new("a new table is made"));
     }
+    put_all(alloc, &mut store, objects)?;
     Ok(store)
 }
-
-const NONE: (&str, &str) = ("", "");
 
 const COMMIT: (&str, &str) = (
     ".hoodie/20250101000000000.commit",
@@ -197,86 +227,91 @@ const NAMES_LOG: &str = "{\"logs\":[\".hoodie/metadata/files/files-0000_20250101
 const OTHER_INSTANT: &str =
     "{\"paths\":[\"p/11111111-1111-4111-8111-111111111111_0-0-0_20250101000000001.parquet\"]}";
 
-// Two objects beside those of a new table, and the least path that they damage.
-const DAMAGE: [((&str, &str), (&str, &str), &str); 14] = [
-    ((".hoodie/x", ""), NONE, ".hoodie/x"),
-    ((REQUESTED, "[]"), NONE, REQUESTED),
-    ((REQUESTED, "{\"a\":1}"), NONE, REQUESTED),
-    ((INFLIGHT, OTHER_INSTANT), NONE, INFLIGHT),
+// Objects beside those of a new table, and the least path that they damage.
+const DAMAGE: [(&[(&str, &str)], &str); 14] = [
+    (&[(".hoodie/x", "")], ".hoodie/x"),
+    (&[(REQUESTED, "[]")], REQUESTED),
+    (&[(REQUESTED, "{\"a\":1}")], REQUESTED),
+    (&[(INFLIGHT, OTHER_INSTANT)], INFLIGHT),
     (
-        (".hoodie/20250101000000000.clean", "{}"),
-        NONE,
+        &[(".hoodie/20250101000000000.clean", "{}")],
         ".hoodie/20250101000000000.clean",
     ),
-    (COMMIT, NONE, DELTA),
-    (COMMIT, (DELTA, NAMES_LOG), LOG),
-    ((DELTA, "{}"), NONE, DELTA),
-    ((LOG, "{}"), NONE, LOG),
+    (&[COMMIT], DELTA),
+    (&[COMMIT, (DELTA, NAMES_LOG)], LOG),
+    (&[(DELTA, "{}")], DELTA),
+    (&[(LOG, "{}")], LOG),
     (
-        (LOG, "{}"),
-        (".hoodie/x", ""),
+        &[(LOG, "{}"), (".hoodie/x", "")],
         ".hoodie/metadata/files/files-0000_20250101000000000.log",
     ),
-    ((DELTA, "{}"), (LOG, "{}"), DELTA),
+    (&[(DELTA, "{}"), (LOG, "{}")], DELTA),
     (
-        (
+        &[(
             ".hoodie/metadata/files/files-0000_00000000000000000001.hfile",
             "{}",
-        ),
-        NONE,
+        )],
         ".hoodie/metadata/files/files-0000_00000000000000000001.hfile",
     ),
     (
-        (
+        &[(
             ".hoodie/metadata/files/files-0000_00000000000000000010.hfile",
             "{} ",
-        ),
-        NONE,
+        )],
         ".hoodie/metadata/files/files-0000_00000000000000000010.hfile",
     ),
     (
-        (".hoodie/hoodie.properties", "hoodie.table.version=6\n"),
-        NONE,
+        &[(".hoodie/hoodie.properties", "hoodie.table.version=6\n")],
         ".hoodie/hoodie.properties",
     ),
 ];
 
+// Whether a new table with these objects is refused for this.
+fn is_damaged(alloc: Global, objects: &[(&str, &str)], word: &str) -> Result<bool, Fail> {
+    let mut store = table_with(alloc, objects)?;
+    Ok(is_refused(alloc, &mut store, word))
+}
+
 #[test]
 fn the_least_path_that_shows_damage_is_told(rt: HostRuntime) -> Result<(), Fail> {
     let alloc = rt.alloc();
-    for (one, other, damaged) in DAMAGE {
-        let mut store = table_with(&rt, one, other)?;
-        let said = opened(alloc, &mut store)?;
-        assert_eq!(rt; said.as_str(), damaged);
+    for (objects, damaged) in DAMAGE {
+        let told = is_damaged(alloc, objects, damaged)?;
+        assert!(rt; told, "{damaged}");
     }
     Ok(())
+}
+
+fn table_without(alloc: Global, path: &str) -> Result<MemStore, Fail> {
+    let mut store = table_with(alloc, &[])?;
+    let path = Path::parse(alloc, path)?;
+    match store.delete(alloc, &path) {
+        Ok(true) => Ok(store),
+        _ => Err(Fail::new("an object is deleted")),
+    }
 }
 
 #[test]
 fn a_base_that_is_named_cannot_be_missing(rt: HostRuntime) -> Result<(), Fail> {
     let alloc = rt.alloc();
-    let mut store = table_with(&rt, NONE, NONE)?;
-    let base = Path::parse(
-        alloc,
-        ".hoodie/metadata/files/files-0000_00000000000000000010.hfile",
-    )?;
-    store.delete(alloc, &base).ok().expect(&rt, "an answer");
-    let said = opened(alloc, &mut store)?;
-    assert_eq!(rt; said.as_str(), base.as_str());
+    const BASE: &str = ".hoodie/metadata/files/files-0000_00000000000000000010.hfile";
+    let mut store = table_without(alloc, BASE)?;
+    assert!(rt; is_refused(alloc, &mut store, BASE));
     Ok(())
 }
 
 #[test]
 fn another_version_is_told_before_damage(rt: HostRuntime) -> Result<(), Fail> {
     let alloc = rt.alloc();
-    let config = "hoodie.table.metadata.partitions=files\n\nhoodie.table.version=5\n";
-    let mut store = table_with(
-        &rt,
-        (".hoodie/hoodie.properties", config),
+    const OBJECTS: [(&str, &str); 2] = [
+        (
+            ".hoodie/hoodie.properties",
+            "hoodie.table.metadata.partitions=files\n\nhoodie.table.version=5\n",
+        ),
         (".hoodie/x", ""),
-    )?;
-    let said = opened(alloc, &mut store)?;
-    assert_eq!(rt; said.as_str(), "version 5");
+    ];
+    let told = is_damaged(alloc, &OBJECTS, "version 5")?;
+    assert!(rt; told);
     Ok(())
 }
 
@@ -284,32 +319,117 @@ fn another_version_is_told_before_damage(rt: HostRuntime) -> Result<(), Fail> {
 fn a_folder_without_a_config_is_no_table(rt: HostRuntime) -> Result<(), Fail> {
     let alloc = rt.alloc();
     let mut store = MemStore::empty(alloc);
-    put(&rt, &mut store, ".hoodie/x", "")?;
-    let said = opened(alloc, &mut store)?;
-    assert_eq!(rt; said.as_str(), "no table");
+    put(alloc, &mut store, (".hoodie/x", ""))?;
+    assert!(rt; is_refused(alloc, &mut store, "no table"));
     Ok(())
 }
 
 #[test]
 fn a_pending_commit_and_a_stray_file_are_no_damage(rt: HostRuntime) -> Result<(), Fail> {
     let alloc = rt.alloc();
-    let mut store = table_with(&rt, (REQUESTED, " { } "), ("a/b", "x"))?;
-    let said = opened(alloc, &mut store)?;
-    assert_eq!(rt;
-        said.as_str(),
-        ".hoodie/20250101000000000.commit.requested .hoodie/hoodie.properties .hoodie/metadata/.hoodie/00000000000000000010.deltacommit .hoodie/metadata/.hoodie/00000000000000000010.deltacommit.inflight .hoodie/metadata/files/files-0000_00000000000000000010.hfile a/b "
-    );
+    const NAMES: [&str; 5] = [
+        ".hoodie/20250101000000000.commit.requested",
+        ".hoodie/hoodie.properties",
+        ".hoodie/metadata/.hoodie/00000000000000000010.deltacommit",
+        ".hoodie/metadata/.hoodie/00000000000000000010.deltacommit.inflight",
+        ".hoodie/metadata/files/files-0000_00000000000000000010.hfile",
+    ];
+    let mut store = table_with(alloc, &[(REQUESTED, " { } "), ("a/b", "x")])?;
+    assert!(rt; holds(alloc, &mut store, &NAMES, &["a/b"]));
     Ok(())
+}
+
+// Whether an opening of which the call fails, counted with those of the making, is a fault.
+fn fails_at(alloc: Global, call: u64) -> Result<bool, Fail> {
+    let mut store = table_with(alloc, &[])?;
+    store.fail(call, false)?;
+    Ok(is_refused(alloc, &mut store, "fault"))
 }
 
 #[test]
 fn a_read_that_fails_is_a_fault(rt: HostRuntime) -> Result<(), Fail> {
     let alloc = rt.alloc();
     for call in 5..10 {
-        let mut store = table_with(&rt, NONE, NONE)?;
-        store.fail(call, false)?;
-        let said = opened(alloc, &mut store)?;
-        assert_eq!(rt; said.as_str(), "fault", "at {call}");
+        let fails = fails_at(alloc, call)?;
+        assert!(rt; fails, "at {call}");
     }
+    Ok(())
+}
+
+// Two commits with their logs, and the request of a third one.
+const COMMITS: [(&str, &str); 7] = [
+    (
+        ".hoodie/20250101000000000.commit",
+        "{\"partitionToWriteStats\":{\"2024-01-01\":[{\"fileId\":\"11111111-1111-4111-8111-111111111111\",\"fileSizeInBytes\":5,\"numWrites\":0,\"path\":\"2024-01-01/11111111-1111-4111-8111-111111111111_0-0-0_20250101000000000.parquet\",\"prevCommit\":\"null\"}]}}",
+    ),
+    (DELTA, NAMES_LOG),
+    (
+        LOG,
+        "{\"added\":[{\"name\":\"11111111-1111-4111-8111-111111111111_0-0-0_20250101000000000.parquet\",\"partition\":\"2024-01-01\",\"size\":5}]}",
+    ),
+    (
+        ".hoodie/20250101000000001.commit",
+        "{\"partitionToWriteStats\":{\"2024-01-01\":[{\"fileId\":\"22222222-2222-4222-8222-222222222222\",\"fileSizeInBytes\":5,\"numWrites\":0,\"path\":\"2024-01-01/22222222-2222-4222-8222-222222222222_0-0-0_20250101000000001.parquet\",\"prevCommit\":\"null\"}]}}",
+    ),
+    (
+        ".hoodie/metadata/.hoodie/20250101000000001.deltacommit",
+        "{\"logs\":[\".hoodie/metadata/files/files-0000_20250101000000001.log\"]}",
+    ),
+    (
+        ".hoodie/metadata/files/files-0000_20250101000000001.log",
+        "{\"added\":[{\"name\":\"22222222-2222-4222-8222-222222222222_0-0-0_20250101000000001.parquet\",\"partition\":\"2024-01-01\",\"size\":5}]}",
+    ),
+    (".hoodie/20250101000000002.commit.requested", "{}"),
+];
+
+// Whether the folder is read, and its completed commits have these instants and each a file of this group.
+fn completes(alloc: Global, store: &mut MemStore, expected: &[(u64, FileId)]) -> bool {
+    match read_folder(alloc, store) {
+        Ok(folder) => are_commits(folder.commits.as_slice(), expected),
+        Err(_) => false,
+    }
+}
+
+fn are_commits(commits: &[Action], expected: &[(u64, FileId)]) -> bool {
+    if commits.len() != expected.len() {
+        return false;
+    }
+    for (commit, (number, id)) in commits.iter().zip(expected) {
+        if commit.at.number() != *number || !writes_one(&commit.meta, id) {
+            return false;
+        }
+    }
+    true
+}
+
+fn writes_one(meta: &CommitMeta, id: &FileId) -> bool {
+    match meta.partitions.as_slice() {
+        [stats] => is_file_of(stats.stats.as_slice(), id),
+        _ => false,
+    }
+}
+
+fn is_file_of(stats: &[WriteStat], id: &FileId) -> bool {
+    match stats {
+        [stat] => stat.file_id == *id,
+        _ => false,
+    }
+}
+
+#[test]
+fn the_completed_commits_are_told_with_their_files(rt: HostRuntime) -> Result<(), Fail> {
+    let alloc = rt.alloc();
+    let expected = [
+        (
+            20_250_101_000_000_000,
+            FileId::parse("11111111-1111-4111-8111-111111111111")?,
+        ),
+        (
+            20_250_101_000_000_001,
+            FileId::parse("22222222-2222-4222-8222-222222222222")?,
+        ),
+    ];
+    let mut store = table_with(alloc, &COMMITS)?;
+    assert!(rt; completes(alloc, &mut store, &expected));
     Ok(())
 }

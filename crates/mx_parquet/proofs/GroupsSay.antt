@@ -3,7 +3,7 @@ use Rattle.std.proofs.Common.{◌≡◌, ℕ, ◌+◌, ◌≤◌, ℤ, pos, Bool
 use Rattle.std.specs.List.{AllByRecursion}
 use Rattle.std.specs.Str.{IsUtf8}
 use Rattle.std.proofs.lemmas.List.Sums.{sum-map, sum_by-cons}
-use Rattle.std.proofs.lemmas.Bool.{eq-eqb, leb-true, le-leb}
+use Rattle.std.proofs.lemmas.Bool.{eq-eqb, eqb-true, leb-true, le-leb}
 use Rattle.mx_thrift.specs.declared.value.Value.{Value}
 use Rattle.mx_thrift.specs.declared.value.Value.TheVariants as values
 use Rattle.mx_schema.specs.declared.cell.Cell.{Cell}
@@ -159,7 +159,7 @@ groups_read file columns (s ∷ ss) (rows ∷ parts) are =
 
 -- ---- the whole
 
-rows_add : (file : List ℕ) (columns : List Column) (groups : List Group) (parts : List (List FullRow)) → HoldRows file columns groups parts → rows_in groups ≡ length (flat_map (λ (part : List FullRow). part) parts)
+pub rows_add : (file : List ℕ) (columns : List Column) (groups : List Group) (parts : List (List FullRow)) → HoldRows file columns groups parts → rows_in groups ≡ length (flat_map (λ (part : List FullRow). part) parts)
 rows_add file columns [] [] holds = refl
 rows_add file columns [] (rows ∷ parts) holds = absurd holds
 rows_add file columns (g ∷ gs) [] holds = absurd holds
@@ -229,9 +229,9 @@ layout_reads file fields schema rows utf8 few is =
       record { columns = refl; counted = refl; parts = is.parts; each = groups.2; all = is.all },
     )
 
-pub layout_few : (len : ℕ) (fields : Struct) (layout : Layout) (count : ℕ) → layout_in len fields ≡ Ok layout → layout.row_count ≡ count → count ≤ 16_384
+layout_rows : (len : ℕ) (fields : Struct) (layout : Layout) → layout_in len fields ≡ Ok layout → has_rows layout.row_count layout.groups ≡ true
 unfolding layout_in
-layout_few len fields layout rows e is =
+layout_rows len fields layout e =
     let version = bind_ok (int_in 1 fields) (λ version. columns_in fields >>= λ cs. long_in 3 fields >>= λ count. count_of count >>= λ n. list_in 12 4 fields >>= λ items. each_in (group_at len cs) items >>= λ gs. cond (has_rows n gs) (good (made cs n gs)) bad) layout e in
     let columns = bind_ok (columns_in fields) (λ cs. long_in 3 fields >>= λ count. count_of count >>= λ n. list_in 12 4 fields >>= λ items. each_in (group_at len cs) items >>= λ gs. cond (has_rows n gs) (good (made cs n gs)) bad) layout version.2 in
     let count = bind_ok (long_in 3 fields) (λ count. count_of count >>= λ n. list_in 12 4 fields >>= λ items. each_in (group_at len columns.0) items >>= λ gs. cond (has_rows n gs) (good (made columns.0 n gs)) bad) layout columns.2 in
@@ -239,5 +239,14 @@ layout_few len fields layout rows e is =
     let items = bind_ok (list_in 12 4 fields) (λ items. each_in (group_at len columns.0) items >>= λ gs. cond (has_rows n.0 gs) (good (made columns.0 n.0 gs)) bad) layout n.2 in
     let gs = bind_ok (each_in (group_at len columns.0) items.0) (λ gs. cond (has_rows n.0 gs) (good (made columns.0 n.0 gs)) bad) layout items.2 in
     let last = passed (has_rows n.0 gs.0) (made columns.0 n.0 gs.0) layout gs.2 in
-    let few = and_parts (leb n.0 16_384) (eqb (rows_in gs.0) n.0) last.0 in
-    omega (arith, leb-true n.0 16_384 few.0, ap (λ (l : Layout). l.row_count) last.1, is)
+    subst (λ (l : Layout). has_rows l.row_count l.groups ≡ true) last.1 last.0
+
+pub layout_few : (len : ℕ) (fields : Struct) (layout : Layout) (count : ℕ) → layout_in len fields ≡ Ok layout → layout.row_count ≡ count → count ≤ 16_384
+layout_few len fields layout rows e is =
+    let few = and_parts (leb layout.row_count 16_384) (eqb (rows_in layout.groups) layout.row_count) (layout_rows len fields layout e) in
+    omega (arith, leb-true layout.row_count 16_384 few.0, is)
+
+pub layout_sum : (len : ℕ) (fields : Struct) (layout : Layout) → layout_in len fields ≡ Ok layout → rows_in layout.groups ≡ layout.row_count
+layout_sum len fields layout e =
+    let sum = and_parts (leb layout.row_count 16_384) (eqb (rows_in layout.groups) layout.row_count) (layout_rows len fields layout e) in
+    eqb-true (rows_in layout.groups) layout.row_count sum.1

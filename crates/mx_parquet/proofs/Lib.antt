@@ -17,3 +17,12 @@ mod HeadersSay
 mod InTurn
 mod ChunkTurns
 mod Texts
+mod ValueTurns
+mod ValuesSay
+mod PagesSay
+mod ShortPages
+mod ChunkSays
+mod RowsSay
+mod FirstColumn
+mod WholeSays
+mod FaultsSay

@@ -1,6 +1,6 @@
 -- How many bytes numbers have.
 use Rattle.std.proofs.Common.{◌≡◌, ℕ, zero, suc, ◌+◌, ◌-◌, ◌*◌, ◌/◌, ◌^◌, ◌<◌, ◌≤◌, pos, length, min, refl, sym, ap, ◌∙◌, arith, inl, inr}
-use Rattle.std.specs.Int.{w32}
+use Rattle.std.specs.Int.{w32, w64}
 use Rattle.std.proofs.lemmas.Bool.{cases_lt, le-ltb, lt-ltb}
 use Rattle.std.proofs.Math.Nat.{pow-suc}
 use Rattle.mx_avro.specs.Encoding.{groups, long_encoding}
@@ -9,6 +9,10 @@ use Rattle.mx_parquet.specs.Pages.{number}
 pub number32-length : (n : ℕ) → length (number w32 n) ≡ 4
 unfolding number
 number32-length n = refl
+
+pub number64-length : (n : ℕ) → length (number w64 n) ≡ 8
+unfolding number
+number64-length n = refl
 
 pub groups_small : (k n : ℕ) → n < 128 → length (groups k n) ≡ 1
 unfolding groups

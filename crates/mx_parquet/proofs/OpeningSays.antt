@@ -27,10 +27,10 @@ use Rattle.mx_parquet.specs.Shape.{Struct}
 use Rattle.mx_parquet.specs.Held.{IsLaidOut}
 use Rattle.mx_parquet.specs.Decoding.{IsFullRow, Decodes}
 use Rattle.mx_parquet.specs.Reading.{Read}
-use Rattle.mx_parquet.specs.Footer.{layout_in}
+use Rattle.mx_parquet.specs.Footer.{layout_in, rows_in}
 use Rattle.mx_parquet.specs.Opening.{is_magic, said_length, footer_place, filling, struct_from, judged, said_at, layout_at, file_layout}
 use Rattle.mx_parquet.proofs.Files.{magic-length}
-use Rattle.mx_parquet.proofs.GroupsSay.{layout_says, layout_reads, layout_few}
+use Rattle.mx_parquet.proofs.GroupsSay.{layout_says, layout_reads, layout_few, layout_sum}
 
 -- ---- the place of the footer
 
@@ -50,10 +50,10 @@ pub record Frames (file : List ℕ) (at : ℕ) : Type 0 where
   pub place : at ≡ length (magic ++ front)
   pub parts : file ≡ magic ++ front ++ footer ++ number w32 (length footer) ++ magic
 
-drop_fits : (n : ℕ) (bytes : List ℕ) → ((i : ℕ) → get_or bytes i 0 < 256) → (i : ℕ) → get_or (drop n bytes) i 0 < 256
+pub drop_fits : (n : ℕ) (bytes : List ℕ) → ((i : ℕ) → get_or bytes i 0 < 256) → (i : ℕ) → get_or (drop n bytes) i 0 < 256
 drop_fits n bytes h i = rw get_or-drop (h (n + i))
 
-take_fits : (n : ℕ) (bytes : List ℕ) → ((i : ℕ) → get_or bytes i 0 < 256) → (i : ℕ) → get_or (take n bytes) i 0 < 256
+pub take_fits : (n : ℕ) (bytes : List ℕ) → ((i : ℕ) → get_or bytes i 0 < 256) → (i : ℕ) → get_or (take n bytes) i 0 < 256
 take_fits n bytes h i =
     elim (cases_lt i n) [
       | inl lt ↦ rw (get_or-take n bytes i 0 lt) (h i)
@@ -227,3 +227,10 @@ file_reads file schema rows utf8 is =
     let read : struct_from (take (length file - 8) file) at ≡ Ok is.fields =
     ap (λ (bytes : List ℕ). struct_from bytes at) (front_is file at frame) ∙ struct_reads (magic ++ is.front) is.footer is.fields is.said in
     (layout.0, rw (place_reads file at frame, read, layout.1) refl, layout.2)
+
+pub file_opened : (file : List ℕ) (layout : Layout) → IsBytes file → file_layout file ≡ Ok layout → (length file ≤ 4_194_304) × (rows_in layout.groups ≡ layout.row_count)
+unfolding file_layout
+file_opened file layout fits e =
+    let p = placed_ok file (footer_place file) layout e in
+    let s = said_ok (length file) p.0 (struct_from (take (length file - 8) file) p.0) layout p.2 in
+    ((place_says file p.0 fits p.1).few, layout_sum (length file) s.0 layout s.2)

@@ -11,7 +11,7 @@ pub text_is : (id : ℕ) (fields : Struct) (bytes : List ℕ) → bytes_in id fi
 unfolding text_in
 text_is id fields bytes e good = rw (e, is_utf8-from_IsUtf8 bytes good) refl
 
-no_utf8 : (bytes : List ℕ) (b : Bool) → is_utf8 bytes ≡ b → (IsUtf8 bytes → ⊥) → is_utf8 bytes ≡ false
+pub no_utf8 : (bytes : List ℕ) (b : Bool) → is_utf8 bytes ≡ b → (IsUtf8 bytes → ⊥) → is_utf8 bytes ≡ false
 no_utf8 bytes true e wrong = absurd (wrong (IsUtf8-from_is_utf8 bytes e))
 no_utf8 bytes false e wrong = e
 

@@ -11,3 +11,8 @@ pub mod Opening
 pub mod Held
 pub mod Found
 pub mod Headers
+pub mod Values
+pub mod Chunks
+pub mod Filling
+pub mod Refusals
+pub mod Faults

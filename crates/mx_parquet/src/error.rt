@@ -1,5 +1,6 @@
 ghost use Rattle.std.specs.Prelude.{◌≡◌};
 ghost use Rattle.mx_parquet.specs.declared.error.Failure.TheVariants as failures;
+ghost use Rattle.mx_parquet.specs.declared.error.ParquetError.TheVariants as errors;
 ghost use Rattle.mx_parquet.specs.Reading.{placed_failure};
 
 use std::alloc::{AllocError, AllocFailed};
@@ -8,9 +9,26 @@ use std::alloc::{AllocError, AllocFailed};
 #[derive(Clone, Copy, Debug, PartialEq, Eq)]
 pub enum ParquetError {
     NoMemory,
-    /// The first broken rule. One of a struct's fields is named by where the footer or the page header begins.
+    /// The first broken rule. One of a struct's fields is named by where the footer or the page header begins, one of
+    /// what a page holds by where its header ends, and one of all the pages of a chunk by where that begins.
     BadParquet { at: usize },
     Unsupported { what: Feature },
+}
+
+impl From<AllocError> for ParquetError {
+    ghost from_gives = { λ _ e. e ≡ errors.NoMemory };
+
+    fn from(_e: AllocError) -> ParquetError {
+        ParquetError::NoMemory
+    }
+}
+
+impl<T: Drop> From<AllocFailed<T>> for ParquetError {
+    ghost from_gives = { λ _ e. e ≡ errors.NoMemory };
+
+    fn from(_e: AllocFailed<T>) -> ParquetError {
+        ParquetError::NoMemory
+    }
 }
 
 /// What a file may have in Parquet and not here.

@@ -31,7 +31,7 @@ fn row_fits(columns: &[Column], row: &FullRow) -> bool
     is_key(&row.record_key) && cells_fit(columns, row.cells.as_slice())
 }
 
-fn is_key(text: &Text) -> bool
+pub(crate) fn is_key(text: &Text) -> bool
     ensures { IsTrue result ↔ IsKeyText text.now }
 {
     let bytes = text.as_str().as_bytes();

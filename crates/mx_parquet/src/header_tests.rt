@@ -49,7 +49,7 @@ fn what_is_wrong_with_a_header_is_told(rt: HostRuntime) -> Result<(), Fail> {
         (240, 0x08, bad),
     ];
     for (at, byte, wanted) in cases {
-        let file = edited(&rt, at, byte)?;
+        let file = edited(&rt, ONE_ROW, at, byte)?;
         let found = fault_of(&rt, &file);
         assert_eq!(rt; found, wanted, "{at}");
     }

@@ -17,17 +17,26 @@
 //! | `write_rows` | the one file of the rows |
 //! | `size_rows` | its length, without writing it |
 //! | `a_written_file_holds_its_rows` | what is written stands for its schema and its rows |
+//! | `read_rows` | the one schema and the rows that a file stands for, or why it stands for none |
 //!
 //! `specs/Decoding.antt` says which bytes stand for which rows, in any number of row groups and pages and with fields
 //! that are passed over (`Decodes`).
 //!
-//! Within the crate a file is read as far as its footer goes: `opening` finds the footer, `elements`, `schema` and
-//! `groups` tell what it says, each with the first broken rule (`specs/Opening.antt`, `specs/Footer.antt`,
-//! `specs/Found.antt`). A file stands for rows exactly where the chunks that are found so hold them (`reading_law`,
-//! `specs/Held.antt`). Of pages the headers are read (`header`, `specs/Headers.antt`) and not yet their bytes, and
-//! nothing hands rows out.
+//! A file is read from its end: `opening` finds the footer, `elements`, `schema` and `groups` tell what it says, each
+//! with the first broken rule (`specs/Opening.antt`, `specs/Footer.antt`, `specs/Found.antt`). A file stands for rows
+//! exactly where the chunks that are found so hold them (`reading_law`, `specs/Held.antt`). `chunk` reads the pages of a
+//! chunk one behind the other, each by its header (`header`), its levels (`page_reading`) and its values (`values`), so
+//! that they are told exactly where there are any (`specs/Values.antt`, `specs/Chunks.antt`). `rows` fills the rows of a
+//! row group column by column (`specs/Filling.antt`).
+//!
+//! What is read is the only schema with the only rows whose numbers fit their kinds that the file stands for. An error
+//! says that it stands for none (`specs/Refusals.antt`), and is the first fault in reading order: of the footer, and then
+//! row group by row group, column by column and page by page (`specs/Faults.antt`).
+//! No memory is taken for a count that only a footer or the header of a page says: a page without levels is first seen
+//! to have bytes for its values, and the rows of a row group, at most 16,384, are made once its first column is read.
 #![tactic(auto)]
 
+mod chunk;
 mod column;
 mod elements;
 mod error;
@@ -41,16 +50,22 @@ mod law;
 mod layout;
 mod opening;
 mod page;
+mod page_reading;
 mod page_size;
+mod reading;
 mod reading_law;
 mod row;
+mod rows;
 mod schema;
 mod shape;
 mod thrift_size;
+mod values;
 mod writing;
 
+pub use error::{Feature, ParquetError};
 pub use fitting::rows_fit;
 pub use law::a_written_file_holds_its_rows;
+pub use reading::{Contents, read_rows};
 pub use row::FullRow;
 pub use writing::{size_rows, write_rows};
 
@@ -58,5 +73,7 @@ pub use writing::{size_rows, write_rows};
 mod header_tests;
 #[cfg(test)]
 mod opening_tests;
+#[cfg(test)]
+mod reading_tests;
 #[cfg(test)]
 mod tests;

@@ -55,7 +55,7 @@ fn struct_of(alloc: Global, bytes: &[u8], at: usize) -> Result<Fields, ParquetEr
     }
 }
 
-fn thrift_error(error: ThriftError) -> ParquetError
+pub(crate) fn thrift_error(error: ThriftError) -> ParquetError
     ensures { result ≡ opening.thrift_error error }
 {
     match error {
@@ -69,7 +69,7 @@ fn thrift_error(error: ThriftError) -> ParquetError
 
 /// Where the footer of a file begins, or the place of the first broken rule.
 #[tactic(auto, unfolding(crate::specs::Opening::footer_place))]
-fn footer_place(file: &[u8]) -> Result<usize, usize>
+pub(crate) fn footer_place(file: &[u8]) -> Result<usize, usize>
     ensures place { result ≡ opening.footer_place file.now }
     ensures room { IfOk result (λ at. 12 ≤ length file.now) }
 {

@@ -1,3 +1,5 @@
+ghost use Rattle.std.specs.Prelude.{◌≡◌, set, IfOk};
+
 use crate::error::{Feature, ParquetError};
 use crate::layout::{ChunkPlace, Layout};
 use crate::opening::layout_in;
@@ -12,7 +14,7 @@ use std::test::*;
 const CHUNKS: [(usize, usize); 6] = [(4, 38), (42, 42), (84, 22), (106, 31), (137, 91), (228, 25)];
 
 /// Where its footer begins.
-const FOOTER: usize = 253;
+pub(super) const FOOTER: usize = 253;
 
 const BAD: Option<ParquetError> = Some(ParquetError::BadParquet { at: FOOTER });
 
@@ -27,12 +29,19 @@ fn fault_of(alloc: Global, file: &[u8]) -> Option<ParquetError> {
     }
 }
 
-// The file of one row with another byte at a place.
-pub(super) fn edited<R: Abort + AllocGlobal>(rt: &R, at: usize, byte: u8) -> Result<Vec<u8>, Fail> {
-    let mut file = Vec::from_slice(rt.alloc(), ONE_ROW)?;
-    assert!(rt; at < file.len());
-    file[at] = byte;
-    Ok(file)
+// A file with another byte at a place.
+pub(super) fn edited<R: Abort + AllocGlobal>(
+    rt: &R,
+    file: &[u8],
+    at: usize,
+    byte: u8,
+) -> Result<Vec<u8>, Fail>
+    ensures { IfOk result (λ edited. edited.items ≡ set file.now at byte) }
+{
+    let mut edited = Vec::from_slice(rt.alloc(), file)?;
+    assert!(rt; at < edited.len());
+    edited[at] = byte;
+    Ok(edited)
 }
 
 fn shows<R: Abort + AllocGlobal>(
@@ -40,7 +49,7 @@ fn shows<R: Abort + AllocGlobal>(
     cases: &[(usize, u8, Option<ParquetError>)],
 ) -> Result<(), Fail> {
     for &(at, byte, wanted) in cases {
-        let file = edited(rt, at, byte)?;
+        let file = edited(rt, ONE_ROW, at, byte)?;
         let found = fault_of(rt.alloc(), &file);
         assert_eq!(rt; found, wanted, "{at}");
     }

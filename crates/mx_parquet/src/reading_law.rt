@@ -1,7 +1,9 @@
-ghost use Rattle.std.specs.Prelude.{◌≡◌, ◌≤◌, ◌↔◌, ℕ, List, Ok, length};
+ghost use Rattle.std.specs.Prelude.{◌≡◌, ◌≤◌, ◌<◌, ◌^◌, ◌↔◌, ℕ, Bool, List, Ok, length, map};
 ghost use Rattle.std.specs.List.{AllByRecursion};
 ghost use Rattle.std.specs.Str.{IsUtf8};
+ghost use Rattle.mx_schema.specs.declared.cell.Cell.{Cell};
 ghost use Rattle.mx_schema.specs.declared.column.Column.{Column};
+ghost use Rattle.mx_schema.specs.declared.column.ColumnKind.{ColumnKind};
 ghost use Rattle.mx_parquet.specs.declared.row.FullRow.{FullRow as Row};
 ghost use Rattle.mx_parquet.specs.declared.layout.Layout.{Layout as AnyLayout};
 ghost use Rattle.mx_parquet.specs.Shape.{Struct};
@@ -12,6 +14,8 @@ ghost use Rattle.mx_parquet.specs.Opening.{file_layout};
 ghost use Rattle.mx_parquet.specs.Decoding.{IsElement, IsFooter, IsFullRow, IsPageHeader, Decodes};
 ghost use Rattle.mx_parquet.specs.Held.{IsBytes, IsLaidOut};
 ghost use Rattle.mx_parquet.specs.Footer.{element_in, layout_in};
+ghost use Rattle.mx_parquet.specs.Values.{cells_in};
+ghost use Rattle.mx_parquet.specs.Chunks.{fitted, AreCells};
 
 /// What is read of an element is the column that it is an element of.
 pub(crate) fn elements_are_read_as_their_columns()
@@ -41,4 +45,12 @@ pub(crate) fn files_are_read_as_their_layouts()
 /// What is read of the header of a page is how many values and bytes it says.
 pub(crate) fn headers_are_read_as_they_say()
     ensures { (fields : Struct) (page : AnySize) → (header_in fields ≡ Ok page) ↔ IsPageHeader fields page.value_count page.size }
+{}
+
+/// What is read of the values of a page are cells that stand there; and cells that stand there are read.
+pub(crate) fn values_are_read_as_their_cells()
+    ensures says { (kind : ColumnKind) (levels : List Bool) (bytes : List ℕ) (held : List Cell) → IsBytes bytes
+        → cells_in kind levels bytes ≡ Ok held → AreCells kind levels bytes held }
+    ensures reads { (kind : ColumnKind) (levels : List Bool) (bytes : List ℕ) (held : List Cell) → length bytes < 2 ^ 32
+        → AreCells kind levels bytes held → cells_in kind levels bytes ≡ Ok (map fitted held) }
 {}

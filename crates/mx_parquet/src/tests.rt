@@ -191,6 +191,27 @@ fn truth_values_are_bits_the_lowest_first(rt: HostRuntime) -> Result<(), Fail> {
     )
 }
 
+// A file of three rows with a cell of every kind and nulls.
+pub(super) fn every_kind<R: Abort + AllocGlobal>(rt: &R) -> Result<Vec<u8>, Fail> {
+    let alloc = rt.alloc();
+    let hi = Cell::Text(text(alloc, "hi")?);
+    let empty = Cell::Text(text(alloc, "")?);
+    let cells = [
+        vec![in alloc; Cell::Flag(true), Cell::Small(-2), Cell::Whole(1), hi]?,
+        vec![in alloc; Cell::Null, Cell::Null, Cell::Null, Cell::Null]?,
+        vec![in alloc; Cell::Flag(false), Cell::Small(258), Cell::Whole(-1), empty]?,
+    ];
+    let mut rows = Vec::new(alloc);
+    for row in cells {
+        rows.push(row_of(alloc, "k", row)?)?;
+    }
+    written(
+        rt,
+        &schema_of(rt, "f:boolean?,n:int32?,w:int64?,t:string?"),
+        &rows,
+    )
+}
+
 fn fits<R: Abort + AllocGlobal>(rt: &R, key: &str, cells: Vec<Cell>) -> Result<bool, Fail> {
     let alloc = rt.alloc();
     let rows = vec![in alloc; row_of(alloc, key, cells)?]?;

@@ -32,9 +32,9 @@ use Rattle.mx_folder.specs.declared.pending.Pending.{Pending}
 use Rattle.mx_folder.proofs.LooseLemmas.{loose_keeps}
 use Rattle.mx_folder.proofs.NamedLemmas.{object_at-same, object_at-stands, object_at-some, object_at-is, is_some_same}
 use Rattle.mx_folder.proofs.PendingLemmas.{pending_loose, outside_loose, hidden_object}
-use Rattle.mx_mirror.specs.Mirror.{IsNoConfig}
-use Rattle.mx_mirror.specs.State.{MayChange}
-use Rattle.mx_mirror.specs.Turns.{MayChangeInTurn}
+use Rattle.mx_world.specs.Mirror.{IsNoConfig}
+use Rattle.mx_world.specs.State.{MayChange}
+use Rattle.mx_world.specs.Turns.{MayChangeInTurn}
 use Rattle.mx_recovery.specs.Recovering.{IsSettled}
 use Rattle.mx_recovery.proofs.DeleteLemmas.{among_head, among_tail, among_cases, among_none, among_front, among_back, deletes_none, deletes_left, deletes_gone}
 

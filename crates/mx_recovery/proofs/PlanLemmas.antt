@@ -27,8 +27,8 @@ use Rattle.mx_folder.specs.Pending.{deletes, left_by, recovery_changes}
 use Rattle.mx_folder.specs.declared.pending.Pending.{Pending}
 use Rattle.mx_folder.proofs.NamedLemmas.{object_at-is}
 use Rattle.mx_folder.proofs.PendingLemmas.{hidden_object}
-use Rattle.mx_mirror.specs.Instants.{NamesInstant, instant_of}
-use Rattle.mx_mirror.specs.Mirror.{IsNoConfig}
+use Rattle.mx_world.specs.Instants.{NamesInstant, instant_of}
+use Rattle.mx_world.specs.Mirror.{IsNoConfig}
 use Rattle.mx_open.specs.Opening.{IsFolderOf}
 use Rattle.mx_open.specs.declared.folder.Folder.{Folder}
 use Rattle.mx_recovery.specs.Recovering.{IsLast, NamedIn}

@@ -8,12 +8,12 @@ use Rattle.mx_store.specs.declared.change.Change.TheVariants.{Create, Put, Delet
 use Rattle.mx_store.specs.Calls.{with_change}
 use Rattle.mx_store.specs.Objects.{Objects, objects_of, after_all}
 use Rattle.mx_folder.specs.Pending.{left_by, recovery_changes}
-use Rattle.mx_mirror.specs.declared.error.ChangeError.{ChangeError}
-use Rattle.mx_mirror.specs.declared.error.ChangeError.TheVariants.{InDoubt, Changed, StoreFault, NoMemory}
-use Rattle.mx_mirror.specs.declared.mirror.Mirror.{Mirror}
-use Rattle.mx_mirror.specs.Mirror.{IsPlain}
-use Rattle.mx_mirror.specs.State.{Shown, Standing, standing, CountsOne, IsLastAfter, Stands, StaysValid, Changes}
-use Rattle.mx_mirror.specs.Turns.{AreMade, StopsAt, MayMakeInTurn, MayChangeInTurn}
+use Rattle.mx_world.specs.declared.error.ChangeError.{ChangeError}
+use Rattle.mx_world.specs.declared.error.ChangeError.TheVariants.{InDoubt, Changed, StoreFault, NoMemory}
+use Rattle.mx_world.specs.declared.mirror.Mirror.{Mirror}
+use Rattle.mx_world.specs.Mirror.{IsPlain}
+use Rattle.mx_world.specs.State.{Shown, Standing, standing, CountsOne, IsLastAfter, Stands, StaysValid, Changes}
+use Rattle.mx_world.specs.Turns.{AreMade, StopsAt, MayMakeInTurn, MayChangeInTurn}
 use Rattle.mx_recovery.specs.Recovering.{Opens, IsOpened, IsOpenedUntold, IsFront, IsLast, IsRefused, IsSettled}
 use Rattle.mx_recovery.specs.Planning.{IsDeletion, IsPlanOf, why_of}
 use Rattle.mx_recovery.specs.declared.error.OpenFailed.{OpenFailed}

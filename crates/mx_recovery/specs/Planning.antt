@@ -10,10 +10,10 @@ use Rattle.mx_store.specs.declared.change.Change.TheVariants.{Create, Put, Delet
 use Rattle.mx_folder.specs.Folder.{IsOpenable}
 use Rattle.mx_folder.specs.Pending.{ArePending, recovery_changes}
 use Rattle.mx_folder.specs.declared.pending.Pending.{Pending}
-use Rattle.mx_mirror.specs.Instants.{NamesInstant}
-use Rattle.mx_mirror.specs.Mirror.{IsMirrorOf, IsNoConfig}
-use Rattle.mx_mirror.specs.declared.error.ChangeError.{ChangeError}
-use Rattle.mx_mirror.specs.declared.error.ChangeError.TheVariants as change
+use Rattle.mx_world.specs.Instants.{NamesInstant}
+use Rattle.mx_world.specs.Mirror.{IsMirrorOf, IsNoConfig}
+use Rattle.mx_world.specs.declared.error.ChangeError.{ChangeError}
+use Rattle.mx_world.specs.declared.error.ChangeError.TheVariants as change
 use Rattle.mx_open.specs.Opening as folder
 use Rattle.mx_open.specs.declared.error.ReadError.{ReadError}
 use Rattle.mx_open.specs.declared.error.ReadError.TheVariants.{StoreFault, NoMemory}

@@ -7,8 +7,8 @@ use Rattle.mx_folder.specs.Named.{object_at, commit_name}
 use Rattle.mx_folder.specs.Folder.{IsOpenable}
 use Rattle.mx_folder.specs.Pending.{IsPending, ArePending, recovery_changes}
 use Rattle.mx_folder.specs.declared.pending.Pending.{Pending}
-use Rattle.mx_mirror.specs.Instants.{NamesInstant, AreUpto}
-use Rattle.mx_mirror.specs.State.{Shown, Standing, standing}
+use Rattle.mx_world.specs.Instants.{NamesInstant, AreUpto}
+use Rattle.mx_world.specs.State.{Shown, Standing, standing}
 use Rattle.mx_open.specs.Opening as folder
 use Rattle.mx_open.specs.Opening.{CountsRead}
 use Rattle.mx_open.specs.declared.error.ReadError.{ReadError}

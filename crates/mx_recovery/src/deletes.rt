@@ -5,15 +5,15 @@ ghost use Rattle.std.specs.Ordering.{nat_cmp, eq_by_cmp};
 ghost use Rattle.std.specs.Cmp.Lexicographic.{slice_cmp};
 ghost use Rattle.mx_base.specs.Objects.{object_path};
 ghost use Rattle.mx_folder.specs.Pending.{deletes, left_by};
-ghost use Rattle.mx_mirror.specs.Mirror.{IsNoConfig};
+ghost use Rattle.mx_world.specs.Mirror.{IsNoConfig};
 ghost use Rattle.mx_store.specs.Objects.{Objects, after_all};
 ghost use Rattle.mx_recovery.specs.Planning.{AreStanding, IsDeletion, stands_among};
 
 use mx_base::{ActionKind, ActionState, Instant, MetadataActionKind, ObjectName, Path};
 use mx_lists::Listed;
-use mx_mirror::is_plain;
 use mx_open::Pending;
 use mx_store::Change;
+use mx_world::is_plain;
 use std::alloc::{AllocError, Global};
 use std::collections::BTreeSet;
 

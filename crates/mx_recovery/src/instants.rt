@@ -1,8 +1,8 @@
 ghost use Rattle.std.specs.Prelude.{◌≡◌, ◌-◌, ℕ, ◌<◌, Contains, IfOk, IfSome, OnOk, Some, max};
 ghost use Rattle.mx_base.specs.DataFiles.{IsDataFileAt};
 ghost use Rattle.mx_base.specs.Objects.{IsObjectName, object_path};
-ghost use Rattle.mx_mirror.specs.Instants as spec;
-ghost use Rattle.mx_mirror.specs.Instants.{NamesInstant};
+ghost use Rattle.mx_world.specs.Instants as spec;
+ghost use Rattle.mx_world.specs.Instants.{NamesInstant};
 ghost use Rattle.mx_recovery.specs.Planning.{IsGreatestOf, GoesOver};
 
 use mx_base::{DataFile, Instant, ObjectName, Path};

@@ -1,5 +1,5 @@
 ghost use Rattle.std.specs.Prelude.{◌≡◌, ℕ, ◌<◌, ◌≤◌, ◌-◌, All, IfSome};
-ghost use Rattle.mx_mirror.specs.State.{StaysValid};
+ghost use Rattle.mx_world.specs.State.{StaysValid};
 ghost use Rattle.mx_store.specs.Objects.{objects_of};
 ghost use Rattle.mx_open.specs.declared.error.ReadError.{ReadError};
 ghost use Rattle.mx_recovery.specs.Planning as planning;
@@ -9,9 +9,9 @@ ghost use Rattle.mx_recovery.specs.Recovering.{CountsOpening, Opens, store_of};
 use crate::error::OpenFailed;
 use crate::plan::{Plan, read_plan};
 use mx_base::Instant;
-use mx_mirror::{ChangeError, Mirrored};
 use mx_open::ReadError;
 use mx_store::{Named, Store};
+use mx_world::{ChangeError, World};
 use std::alloc::Global;
 
 /// Opens the table in a folder: it is read, and what pending commits left is deleted. The next instant that is drawn is `now` at
@@ -20,7 +20,7 @@ pub fn open_world<S: Store, N: Named>(
     alloc: Global,
     store: S,
     now: Instant,
-) -> Result<Mirrored<S, N>, OpenFailed<S>>
+) -> Result<World<S, N>, OpenFailed<S>>
     requires moment { now ≡ N.moment }
     requires meant { 0 < now }
     requires opening { N.opening ≡ S.journal store }
@@ -40,7 +40,7 @@ fn recover<S: Store, N: Named>(
     store: S,
     plan: Plan,
     now: Instant,
-) -> Result<Mirrored<S, N>, OpenFailed<S>>
+) -> Result<World<S, N>, OpenFailed<S>>
     requires opening { N.opening ≡ S.journal store }
     requires planned { IfSome (S.journal store) (λ journal. IsPlanOf now (objects_of journal) plan) }
     requires plain { All IsDeletion plan.changes }
@@ -54,7 +54,7 @@ fn recover<S: Store, N: Named>(
         last,
         changes,
     } = plan;
-    let mut world: Mirrored<S, N> = Mirrored::over(store, mirror, last, 0);
+    let mut world: World<S, N> = World::over(store, mirror, last, 0);
     match world.change_in_turn(alloc, changes.into_vec()) {
         Ok(()) => {
             let _last = world.last();

@@ -9,9 +9,9 @@ use crate::deletes::{deletes_of, left_paths, standing_paths};
 use crate::instants::{before, greatest_of};
 use mx_base::Instant;
 use mx_lists::Listed;
-use mx_mirror::Mirror;
 use mx_open::{Folder, ReadError, read_folder};
 use mx_store::{Change, Store};
+use mx_world::Mirror;
 use std::alloc::{AllocError, Global};
 
 /// What the opening of a folder will do: the deletes of recovery, then changes after the last instant, with the mirror.
@@ -48,8 +48,9 @@ fn plan_of(alloc: Global, folder: Folder, now: Instant) -> Result<Plan, AllocErr
         names,
         others: _,
         pending: _,
+        commits,
     } = folder;
-    let mirror = Mirror::of(alloc, config, names.as_slice())?;
+    let mirror = Mirror::of(alloc, config, names.as_slice(), commits.as_slice())?;
     Ok(Plan {
         mirror,
         last,

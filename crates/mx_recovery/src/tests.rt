@@ -7,7 +7,6 @@ use mx_open::ReadError;
 use mx_store::{Change, MemStore, Named, Store, StoreError};
 use std::alloc::Global;
 use std::marker::Brand;
-use std::process::Abort;
 use std::test::Fail;
 
 const CONFIG: &str = ".hoodie/hoodie.properties";
@@ -86,58 +85,68 @@ const STRAY: &str =
 // What an opening says, and what it leaves.
 #[derive(Drop)]
 struct Seen {
-    said: String,
+    said: &'static str,
     seq: u64,
     last: u64,
     store: MemStore,
 }
 
-fn word(alloc: Global, why: ReadError) -> Result<String, Fail> {
-    Ok(match why {
-        ReadError::NotATable => String::from_str(alloc, "no table")?,
-        ReadError::Version { found } => format!(in alloc; "version {found}")?,
-        ReadError::Damaged { path } => String::from_str(alloc, path.as_str())?,
-        ReadError::StoreFault => String::from_str(alloc, "fault")?,
-        ReadError::NoMemory => String::from_str(alloc, "no memory")?,
-    })
+fn word(why: &ReadError) -> &'static str {
+    match why {
+        ReadError::NotATable => "no table",
+        ReadError::Version { found } => version(*found),
+        ReadError::Damaged { path } => damaged(path),
+        ReadError::StoreFault => "fault",
+        ReadError::NoMemory => "no memory",
+    }
 }
 
-fn opened_as<N: Named, R: Abort + AllocGlobal>(
-    rt: &R,
-    store: MemStore,
-    now: u64,
-) -> Result<Seen, Fail>
+fn version(found: u64) -> &'static str {
+    if found == 5 {
+        "version 5"
+    } else {
+        "another version"
+    }
+}
+
+fn damaged(path: &Path) -> &'static str {
+    if path.as_str() == CONFIG {
+        CONFIG
+    } else {
+        "another path"
+    }
+}
+
+fn opened_as<N: Named>(alloc: Global, store: MemStore, at: Instant) -> Seen
     requires opening { N.opening ≡ Some store.changes }
-    requires moment { N.moment ≡ now }
+    requires moment { N.moment ≡ at }
+    requires meant { 0 < at }
+{
+    match open_world::<MemStore, N>(alloc, store, at) {
+        Ok(world) => Seen {
+            said: "open",
+            seq: world.seq(),
+            last: world.last().number(),
+            store: world.into_store(),
+        },
+        Err(OpenFailed { store, why }) => Seen {
+            said: word(&why),
+            seq: 0,
+            last: 0,
+            store,
+        },
+    }
+}
+
+fn opened(alloc: Global, store: MemStore, now: u64) -> Seen
     requires meant { 0 < now }
     requires small { now < 10 ^ 17 }
 {
-    let alloc = rt.alloc();
     let at = match Instant::new(now) {
         Some(at) => at,
         None => unreachable!(),
     };
-    match open_world::<MemStore, N>(alloc, store, at) {
-        Ok(world) => Ok(Seen {
-            said: String::from_str(alloc, "open")?,
-            seq: world.seq(),
-            last: world.last().number(),
-            store: world.into_store(),
-        }),
-        Err(OpenFailed { store, why }) => Ok(Seen {
-            said: word(alloc, why)?,
-            seq: 0,
-            last: 0,
-            store,
-        }),
-    }
-}
-
-fn opened<R: Abort + AllocGlobal>(rt: &R, store: MemStore, now: u64) -> Result<Seen, Fail>
-    requires meant { 0 < now }
-    requires small { now < 10 ^ 17 }
-{
-    opened_as::<Brand, R>(rt, store, now)
+    opened_as::<Brand>(alloc, store, at)
 }
 
 fn add(alloc: Global, store: &mut MemStore, path: &str, text: &str) -> Result<(), Fail> {
@@ -148,15 +157,32 @@ fn add(alloc: Global, store: &mut MemStore, path: &str, text: &str) -> Result<()
     }
 }
 
+fn add_all(alloc: Global, store: &mut MemStore, objects: &[(&str, &str)]) -> Result<(), Fail> {
+    for (path, text) in objects {
+        add(alloc, store, path, text)?;
+    }
+    Ok(())
+}
+
+fn add_front(alloc: Global, store: &mut MemStore, count: usize) -> Result<(), Fail> {
+    for (path, text) in COMMIT.iter().take(count) {
+        add(alloc, store, path, text)?;
+    }
+    Ok(())
+}
+
 // A new table with the first so many objects of the commit.
 fn table_with(alloc: Global, count: usize) -> Result<MemStore, Fail> {
     let mut store = MemStore::empty(alloc);
-    for (path, text) in NEW_TABLE {
-        add(alloc, &mut store, path, text)?;
-    }
-    for (path, text) in COMMIT.iter().take(count) {
-        add(alloc, &mut store, path, text)?;
-    }
+    add_all(alloc, &mut store, &NEW_TABLE)?;
+    add_front(alloc, &mut store, count)?;
+    Ok(store)
+}
+
+// A new table with the first so many objects of the commit, and with these.
+fn table_of(alloc: Global, count: usize, objects: &[(&str, &str)]) -> Result<MemStore, Fail> {
+    let mut store = table_with(alloc, count)?;
+    add_all(alloc, &mut store, objects)?;
     Ok(store)
 }
 
@@ -174,37 +200,55 @@ fn count_of(alloc: Global, store: &mut MemStore, part: &str) -> Result<usize, Fa
     }
 }
 
-// The paths that are deleted behind the first so many changes, with a space behind each.
-fn deleted(alloc: Global, store: &MemStore, made: usize) -> Result<String, Fail> {
-    let mut said = String::new(alloc);
-    for change in store.journal().iter().skip(made) {
-        if let Change::Delete { path } = change {
-            said.push_str(path.as_str())?;
-            said.push(' ')?;
-        }
+// Whether the changes behind the first so many are the deletes of these paths.
+fn are_deleted(store: &MemStore, made: usize, expected: &[&str]) -> bool {
+    let journal = store.journal();
+    if journal.len() < made {
+        return false;
     }
-    Ok(said)
+    are_deletes(&journal[made..], expected)
 }
 
-fn joined(alloc: Global, paths: &[&str]) -> Result<String, Fail> {
-    let mut said = String::new(alloc);
-    for path in paths {
-        said.push_str(path)?;
-        said.push(' ')?;
+fn are_deletes(changes: &[Change], expected: &[&str]) -> bool {
+    if changes.len() != expected.len() {
+        return false;
     }
-    Ok(said)
+    for (change, path) in changes.iter().zip(expected) {
+        if !is_delete(change, path) {
+            return false;
+        }
+    }
+    true
+}
+
+fn is_delete(change: &Change, gone: &str) -> bool {
+    match change {
+        Change::Delete { path } => path.as_str() == gone,
+        _ => false,
+    }
+}
+
+// Whether the folder opens with so many changes, and so many paths of the commit stand then.
+fn leaves(alloc: Global, seen: &mut Seen, changes: u64, paths: usize) -> Result<bool, Fail> {
+    let left = count_of(alloc, &mut seen.store, "20250101000000000")?;
+    Ok(seen.said == "open" && seen.seq == changes && left == paths)
+}
+
+// Whether a commit that stopped after so many objects is taken away by as many changes.
+fn is_taken_away(alloc: Global, count: usize) -> Result<bool, Fail>
+    requires within { count < 7 }
+{
+    let mut seen = opened(alloc, table_with(alloc, count)?, MOMENT);
+    let taken = leaves(alloc, &mut seen, count as u64, 0)?;
+    Ok(taken && seen.store.journal().len() == 4 + count + count)
 }
 
 #[test]
 fn a_commit_that_stopped_before_its_completion_leaves_nothing(rt: HostRuntime) -> Result<(), Fail> {
     let alloc = rt.alloc();
     for count in 0..7 {
-        let mut seen = opened(&rt, table_with(alloc, count)?, MOMENT)?;
-        let left = count_of(alloc, &mut seen.store, "20250101000000000")?;
-        assert_eq!(rt; seen.said.as_str(), "open", "at {count}");
-        assert_eq!(rt; seen.seq, count as u64);
-        assert_eq!(rt; left, 0);
-        assert_eq!(rt; seen.store.journal().len(), 4 + count + count);
+        let taken = is_taken_away(alloc, count)?;
+        assert!(rt; taken, "at {count}");
     }
     Ok(())
 }
@@ -212,22 +256,17 @@ fn a_commit_that_stopped_before_its_completion_leaves_nothing(rt: HostRuntime) -
 #[test]
 fn a_completed_commit_is_kept(rt: HostRuntime) -> Result<(), Fail> {
     let alloc = rt.alloc();
-    let mut seen = opened(&rt, table_with(alloc, 7)?, MOMENT)?;
-    let left = count_of(alloc, &mut seen.store, "20250101000000000")?;
-    assert_eq!(rt; seen.said.as_str(), "open");
-    assert_eq!(rt; seen.seq, 0);
-    assert_eq!(rt; left, 7);
-    assert_eq!(rt; seen.store.journal().len(), 11);
+    let mut seen = opened(alloc, table_with(alloc, 7)?, MOMENT);
+    let kept = leaves(alloc, &mut seen, 0, 7)?;
+    assert!(rt; kept && seen.store.journal().len() == 11);
     Ok(())
 }
 
 #[test]
 fn what_a_commit_left_is_deleted_in_one_order(rt: HostRuntime) -> Result<(), Fail> {
     let alloc = rt.alloc();
-    let seen = opened(&rt, table_with(alloc, 6)?, MOMENT)?;
-    let gone = deleted(alloc, &seen.store, 10)?;
-    let expected = joined(alloc, &DROPPED)?;
-    assert_eq!(rt; gone.as_str(), expected.as_str());
+    let seen = opened(alloc, table_with(alloc, 6)?, MOMENT);
+    assert!(rt; are_deleted(&seen.store, 10, &DROPPED));
     Ok(())
 }
 
@@ -236,61 +275,77 @@ fn pending_commits_go_by_rising_instant_each_with_its_own_logs(
     rt: HostRuntime,
 ) -> Result<(), Fail> {
     let alloc = rt.alloc();
-    let mut store = table_with(alloc, 6)?;
-    add(alloc, &mut store, NEXT_REQUESTED, "{}")?;
-    add(alloc, &mut store, NEXT_LOG, "{\"added\":[]}")?;
-    let seen = opened(&rt, store, MOMENT)?;
-    let gone = deleted(alloc, &seen.store, 12)?;
-    let mut expected = joined(alloc, &DROPPED)?;
-    expected.push_str(joined(alloc, &[NEXT_LOG, NEXT_REQUESTED])?.as_str())?;
-    assert_eq!(rt; gone.as_str(), expected.as_str());
+    const NEXT: [(&str, &str); 2] = [(NEXT_REQUESTED, "{}"), (NEXT_LOG, "{\"added\":[]}")];
+    const GONE: [&str; 8] = [
+        LOG,
+        DELTA,
+        MARK,
+        DATA,
+        INFLIGHT,
+        REQUESTED,
+        NEXT_LOG,
+        NEXT_REQUESTED,
+    ];
+    let seen = opened(alloc, table_of(alloc, 6, &NEXT)?, MOMENT);
+    assert!(rt; are_deleted(&seen.store, 12, &GONE));
     Ok(())
 }
 
 #[test]
 fn a_list_of_files_without_a_request_is_a_pending_commit(rt: HostRuntime) -> Result<(), Fail> {
     let alloc = rt.alloc();
-    let mut store = table_with(alloc, 0)?;
-    add(alloc, &mut store, INFLIGHT, COMMIT[1].1)?;
-    add(alloc, &mut store, DATA, "hello")?;
-    let seen = opened(&rt, store, MOMENT)?;
-    let gone = deleted(alloc, &seen.store, 6)?;
-    let expected = joined(alloc, &[DATA, INFLIGHT])?;
-    assert_eq!(rt; gone.as_str(), expected.as_str());
+    const OBJECTS: [(&str, &str); 2] = [
+        (
+            INFLIGHT,
+            "{\"paths\":[\"2024-01-01/11111111-1111-4111-8111-111111111111_0-0-0_20250101000000000.parquet\"]}",
+        ),
+        (DATA, "hello"),
+    ];
+    let seen = opened(alloc, table_of(alloc, 0, &OBJECTS)?, MOMENT);
+    assert!(rt; are_deleted(&seen.store, 6, &[DATA, INFLIGHT]));
     Ok(())
 }
 
-// A recovery of six changes, of which the one at the place fails, and a second one.
-fn stopped_and_opened_again<R: Abort + AllocGlobal>(
-    rt: &R,
-    place: u64,
-    applied: bool,
-) -> Result<(), Fail>
+// A recovery of six changes, of which the one at the place fails.
+fn stopped(alloc: Global, place: u64, applied: bool) -> Result<Seen, Fail>
     requires within { place < 6 }
 {
-    let alloc = rt.alloc();
     let mut store = table_with(alloc, 6)?;
     // the ten creates, then one list and nine reads
     store.fail(20 + place, applied)?;
-    let first = opened(rt, store, MOMENT)?;
+    Ok(opened(alloc, store, MOMENT))
+}
+
+// Whether such a recovery is a fault after so many changes, and a second one makes the others.
+fn is_gone_on_with(alloc: Global, place: u64, applied: bool) -> Result<bool, Fail>
+    requires within { place < 6 }
+{
+    let first = stopped(alloc, place, applied)?;
     let made = place + u64::from(applied);
-    assert_eq!(rt; first.said.as_str(), "fault");
-    assert_eq!(rt; first.store.journal().len() as u64, 10 + made);
-    let mut second = opened(rt, first.store, MOMENT)?;
-    let left = count_of(alloc, &mut second.store, "20250101000000000")?;
-    assert_eq!(rt; second.said.as_str(), "open");
-    assert_eq!(rt; second.seq, 6 - made);
-    assert_eq!(rt; left, 0);
-    Ok(())
+    let stops = first.said == "fault" && first.store.journal().len() as u64 == 10 + made;
+    let mut second = opened(alloc, first.store, MOMENT);
+    let goes_on = leaves(alloc, &mut second, 6 - made, 0)?;
+    Ok(stops && goes_on)
 }
 
 #[test]
 fn a_recovery_that_stopped_is_gone_on_with(rt: HostRuntime) -> Result<(), Fail> {
+    let alloc = rt.alloc();
     for place in 0..6 {
-        stopped_and_opened_again(&rt, place, false)?;
-        stopped_and_opened_again(&rt, place, true)?;
+        let kept = is_gone_on_with(alloc, place, false)?;
+        let applied = is_gone_on_with(alloc, place, true)?;
+        assert!(rt; kept && applied, "at {place}");
     }
     Ok(())
+}
+
+// The last instant after the opening of a table with the first so many objects of the commit.
+fn last_with(alloc: Global, count: usize, now: u64) -> Result<u64, Fail>
+    requires meant { 0 < now }
+    requires small { now < 10 ^ 17 }
+{
+    let seen = opened(alloc, table_with(alloc, count)?, now);
+    Ok(seen.last)
 }
 
 #[test]
@@ -306,14 +361,26 @@ fn the_last_instant_is_the_greatest_in_any_name_at_the_opening(
         (7, MOMENT + 8, MOMENT + 7),
     ];
     for (count, now, last) in CASES {
-        let seen = opened(&rt, table_with(alloc, count)?, now)?;
-        assert_eq!(rt; seen.last, last, "at {count}");
+        let found = last_with(alloc, count, now)?;
+        assert_eq!(rt; found, last, "at {count}");
     }
-    let mut store = table_with(alloc, 0)?;
-    add(alloc, &mut store, STRAY, "x")?;
-    let seen = opened(&rt, store, MOMENT)?;
+    Ok(())
+}
+
+#[test]
+fn the_name_of_a_data_file_counts_for_the_last_instant(rt: HostRuntime) -> Result<(), Fail> {
+    let alloc = rt.alloc();
+    let seen = opened(alloc, table_of(alloc, 0, &[(STRAY, "x")])?, MOMENT);
     assert_eq!(rt; seen.last, MOMENT + 9);
     Ok(())
+}
+
+// Whether a folder of one object is refused for this, and kept.
+fn is_refused(alloc: Global, path: &str, text: &str, said: &str) -> Result<bool, Fail> {
+    let mut store = MemStore::empty(alloc);
+    add(alloc, &mut store, path, text)?;
+    let seen = opened(alloc, store, MOMENT);
+    Ok(seen.said == said && seen.store.journal().len() == 1)
 }
 
 #[test]
@@ -327,12 +394,9 @@ fn a_folder_that_does_not_open_is_refused_and_kept(rt: HostRuntime) -> Result<()
         (CONFIG, VERSION_5, "version 5"),
         (CONFIG, "x", CONFIG),
     ];
-    for (path, text, expected) in CASES {
-        let mut store = MemStore::empty(alloc);
-        add(alloc, &mut store, path, text)?;
-        let seen = opened(&rt, store, MOMENT)?;
-        assert_eq!(rt; seen.said.as_str(), expected);
-        assert_eq!(rt; seen.store.journal().len(), 1);
+    for (path, text, said) in CASES {
+        let refused = is_refused(alloc, path, text, said)?;
+        assert!(rt; refused, "{said}");
     }
     Ok(())
 }

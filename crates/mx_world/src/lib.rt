@@ -1,26 +1,39 @@
-//! A table over a store, changed one ask at a time.
+//! A store with what is known of its folder, changed one object at a time.
 //!
-//! A `World` holds the store, the instant that was drawn last, the number of changes made, and the newest commit of each
-//! group. It makes one call of the store at a time, and each change keeps the table.
+//! A `Mirror` is a folder without its bytes: its config, the names of all objects below `.hoodie/`, which commits are
+//! completed, and which groups each of them wrote a file of (`specs/Mirror.antt`, `IsMirrorOf`). A `World` holds a store, its mirror, the last instant, the count of
+//! changes, and the change whose fate is not known.
 //!
-//! Invariant (`mx_state/specs/State.antt`, `IsKept`): at every prefix of the journal since the opening each completed commit's
-//! object reads, and its log adds what the commit lists. While no call has failed, the world also knows the folder
-//! (`IsSettled`): no name has a greater instant than the last one, and each group's newest commit is the one that is kept.
+//! Invariant (`specs/State.antt`, `IsKept`), where the store tells its journal: the mirror, the last instant and the count
+//! are those of the journal, or of the journal without the change in doubt; and every prefix since the opening is a valid
+//! table, if the opening was one.
 //!
 //! | call | contract |
 //! |---|---|
-//! | `World::over` | a world over a told journal that leaves no object |
-//! | `World::act` | the answer to an ask, by the journals before it and after it (`mx_state/specs/Answers.antt`) |
-//! | `World::applied` | the number of changes made |
-//! | `World::into_store` | the store: at every prefix since the opening the logs say what the commits list |
-//!
-//! After a failed call of the store nothing more can be asked: `act` wants a world that is settled.
+//! | `Mirror::of` | the mirror of the folder that has a config, these names and these completed commits |
+//! | `Mirror::completed_upto`, `newest` | the completed commits up to an instant, in their order; the newest one |
+//! | `Mirror::newest_of` | the newest completed commit that wrote a file of a group |
+//! | `Mirror::live`, `instants` | how many files the completed commits list, and of how many instants an object of an action stands |
+//! | `World::over` | a store with the mirror of what it holds |
+//! | `World::change` | makes one change, of which the caller shows that it may be made (`MayMake`); where the store fails it is in doubt, and no other is made |
+//! | `World::change_in_turn` | makes changes one after the other, up to the first one that is not made (`specs/Turns.antt`) |
+//! | `World::settle` | one read of the path in doubt: the change was applied exactly where the object stands as it leaves it |
+//! | `World::mirror`, `last`, `seq` | what is known of the folder, the last instant, and the count of changes |
+//! | `World::read_object` | the bytes of an object, by one read |
+//! | `World::into_store` | the store: every prefix of its journal is a valid table, where the opening was one |
+//! | `is_plain`, `path_of` | whether a change is a create or a delete of another object than the config; its path |
 #![tactic(auto)]
 
-mod act;
-mod commit;
-mod lookup;
+mod asking;
+mod counting;
+mod error;
+mod mirror;
+#[cfg(test)]
+mod tests;
+mod turns;
 mod world;
 
-pub use mx_state::Answered;
+pub use asking::{is_plain, path_of};
+pub use error::ChangeError;
+pub use mirror::Mirror;
 pub use world::World;

@@ -1,25 +1,25 @@
 -- The changes of a commit may be made in turn.
 use Rattle.std.proofs.Common.{◌≡◌, ◌≢◌, inl, inr, ℕ, ◌+◌, ◌^◌, ◌≤◌, ◌<◌, arith, Bool, true, false, List, [], ◌∷◌, ◌++◌, Option, Some, None, IsSome, refl, sym, ◌∙◌, ap, subst}
-use Rattle.std.specs.Prelude.{Result, Err, All, max, unwrap_or, codes, nat_lt, ◌&&◌, ◌||◌, option_map, option_and_then}
+use Rattle.std.specs.Prelude.{All, Contains, fold, map, max, unwrap_or, codes, nat_lt, ◌&&◌, ◌||◌, option_and_then}
 use Rattle.std.specs.FinMap as finmap
-use Rattle.std.specs.Option.{option_map_or, SomeIff}
 use Rattle.std.proofs.lemmas.Bool.Decides.{nat_tests}
-use Rattle.std.proofs.lemmas.List.Elements.{All-cons, All-nil}
+use Rattle.std.proofs.lemmas.List.Elements.{All-cons, All-nil, All-head, All-tail, All-append, All-weaker, All-contains, All-contains_itself}
+use Rattle.std.proofs.lemmas.List.{append_assoc}
 use Rattle.serde_json.specs.Written.{compact_text}
+use Rattle.mx_ask.specs.Asks.{IsFileText}
 use Rattle.mx_ask.specs.declared.ask.FileText.{FileText}
 use Rattle.mx_base.specs.DataFiles.{IsDataFileAt}
-use Rattle.mx_base.specs.Names.{IsPartition, IsFileId}
 use Rattle.mx_base.specs.Objects.{IsObjectName, is_instant, object_path}
 use Rattle.mx_base.specs.Paths.{data_path}
-use Rattle.mx_base.specs.declared.data_file.DataFile.{DataFile}
 use Rattle.mx_base.specs.declared.object_name.ActionKind.TheVariants as action
 use Rattle.mx_base.specs.declared.object_name.ActionState.TheVariants.{Requested}
 use Rattle.mx_base.specs.declared.object_name.ObjectName.{ObjectName}
 use Rattle.mx_base.specs.declared.object_name.ObjectName.TheVariants.{Config, Timeline}
 use Rattle.mx_base.specs.declared.part.Part.TheVariants.{Files}
-use Rattle.mx_base.proofs.ObjectLemmas.{object_path-injective}
+use Rattle.mx_base.proofs.DataLemmas.{one_file}
+use Rattle.mx_base.proofs.NameLemmas.{length-IsFileId}
 use Rattle.mx_store.specs.declared.change.Change.{Change}
-use Rattle.mx_store.specs.declared.change.Change.TheVariants.{Create}
+use Rattle.mx_store.specs.declared.change.Change.TheVariants.{Create, Put, Delete}
 use Rattle.mx_store.specs.Journal.{AreAllowed}
 use Rattle.mx_store.specs.Objects.{Objects, at_path, apply, after_all, objects_of}
 use Rattle.mx_store.proofs.Journal.{objects_of-push}
@@ -28,34 +28,29 @@ use Rattle.mx_meta.specs.AddedText.{added_data, added_of}
 use Rattle.mx_meta.specs.CommitText.{commit_meta_data}
 use Rattle.mx_meta.specs.ShardFiles.{delta_meta_data}
 use Rattle.mx_meta.specs.declared.added.AddedFile.{AddedFile}
+use Rattle.mx_meta.specs.declared.commit_meta.CommitMeta.{CommitMeta}
 use Rattle.mx_meta.specs.declared.commit_meta.PartitionStats.{PartitionStats}
 use Rattle.mx_meta.specs.declared.commit_meta.WriteStat.{WriteStat}
-use Rattle.mx_meta.specs.Places.{place_in, place_of, place_below, stands_in_order}
-use Rattle.mx_meta.specs.Rising.{is_rising}
-use Rattle.mx_meta.specs.declared.places.Place.{Place}
-use Rattle.mx_meta.specs.declared.places.ShardFile.TheVariants.{Log as ShardLog}
-use Rattle.mx_meta.proofs.PlaceLemmas.{place_found}
-use Rattle.mx_model.specs.Listing.{files_of}
+use Rattle.mx_model.specs.Maps.{with_file}
 use Rattle.mx_folder.specs.Named.{commit_name, delta_name, log_name}
 use Rattle.mx_folder.specs.Pending.{requested_name, inflight_name, delta_mark}
 use Rattle.mx_folder.specs.Actions.{IsCompleted, added_at}
 use Rattle.mx_folder.specs.Folder.{IsValidTable}
 use Rattle.mx_folder.specs.Reading.{IsDataFileOf, IsLogOf, NamesItsFiles}
-use Rattle.mx_folder.specs.Steps.{MayComplete}
+use Rattle.mx_folder.specs.Steps.{IsMadeBefore, MayComplete}
 use Rattle.mx_folder.proofs.BeginLemmas.{empty_object}
 use Rattle.mx_folder.proofs.CompletionLemmas.{completion_keeps}
 use Rattle.mx_folder.proofs.NamedLemmas.{object_at-is, object_at-stands, other_path, is_some_same}
-use Rattle.mx_mirror.specs.declared.mirror.Mirror.{Mirror}
-use Rattle.mx_mirror.specs.declared.error.ChangeError.TheVariants.{NoMemory}
-use Rattle.mx_mirror.specs.Instants.{AreUpto, IsDrawnBy}
-use Rattle.mx_mirror.specs.Mirror.{IsNoConfig, IsPlain}
-use Rattle.mx_mirror.specs.State.{MayChange, Stands, Standing}
-use Rattle.mx_mirror.specs.Turns.{MayChangeInTurn, MayMakeInTurn, StopsAt}
-use Rattle.mx_writer.specs.Changes.{data_file, files_planned, files_added, logs_written, meta_written, early_changes, completion, commit_changes, ReadsBack}
-use Rattle.mx_writer.specs.Commit.{Commits}
-use Rattle.mx_writer.specs.declared.committing.CommitError.{CommitError}
-use Rattle.mx_writer.specs.declared.committing.CommitError.TheVariants.{Stopped}
-use Rattle.mx_writer.proofs.EarlyLemmas.{never_both, named_instant, AreEarly, early_instant, may_all_early, all_completed_after, drawn_rises, AreDistinct, all_absent, allowed_absent}
+use Rattle.mx_world.specs.declared.mirror.Mirror.{Mirror}
+use Rattle.mx_world.specs.Instants.{AreUpto, IsDrawnBy}
+use Rattle.mx_world.specs.Mirror.{IsNoConfig, IsPlain}
+use Rattle.mx_world.specs.State.{MayChange, Stands}
+use Rattle.mx_world.specs.Turns.{MayChangeInTurn, MayMakeInTurn}
+use Rattle.mx_commit.specs.declared.written.Written.{Written}
+use Rattle.mx_commit.specs.Written.{data_file, AreWritten, IsSameGroup, AreApartFiles, IsMetaOf}
+use Rattle.mx_commit.specs.Changes.{files_planned, files_added, logs_written, data_changes, file_changes, added_changes, log_changes, early_changes, completion, commit_changes, ReadsBack, IsPlanOf}
+use Rattle.mx_commit.proofs.ListingLemmas.{logged_listed}
+use Rattle.mx_writer.proofs.EarlyLemmas.{IsEarly, AreApart, absent_above, never_both, named_instant, AreEarly, early_instant, may_all_early, all_completed_after, drawn_rises, AreDistinct, all_absent, allowed_absent}
 
 both : (a b : Bool) → a ≡ true → b ≡ true → (a && b) ≡ true
 both true b h k = k
@@ -79,108 +74,233 @@ none_from (Some x) never = absurd (never refl)
 same_max : (last t : ℕ) → t ≡ last + 1 → max last t ≡ max t t
 same_max last t is = grind arith
 
-abbrev EachPlain : List Change → Type 0
-EachPlain [] = Unit {0}
-EachPlain (change ∷ changes) = IsPlain change × EachPlain changes
+-- ---- lists of changes
 
-all_plain : (changes : List Change) → EachPlain changes → All IsPlain changes
-all_plain [] each = All-nil IsPlain
-all_plain (change ∷ changes) each = All-cons IsPlain change changes each.0 (all_plain changes each.1)
+both_early : (t : ℕ) (xs ys : List Change) → AreEarly t xs → AreEarly t ys → AreEarly t (xs ++ ys)
+both_early t [] ys left right = right
+both_early t (Create path bytes ∷ xs) ys left right = (left.0, both_early t xs ys left.1 right)
+both_early t (Put path bytes ∷ xs) ys left right = absurd left
+both_early t (Delete path ∷ xs) ys left right = absurd left
 
-module _ (file : FileText) (t : ℕ) (plot : IsPartition file.partition) (id : IsFileId file.file) (meant : 0 < t) (small : t < 10 ^ 17) (prev : Option ℕ) (reads : ReadsBack file t prev) where
-  -- ---- the names of its objects
+both_apart : (path : List ℕ) (xs ys : List Change) → AreApart path xs → AreApart path ys → AreApart path (xs ++ ys)
+both_apart path [] ys left right = right
+both_apart path (Create other bytes ∷ xs) ys left right = (left.0, both_apart path xs ys left.1 right)
+both_apart path (Put other bytes ∷ xs) ys left right = absurd left
+both_apart path (Delete other ∷ xs) ys left right = absurd left
 
+-- what the one list makes stands elsewhere than what the other does
+abbrev EachApart : List Change → List Change → Type 0
+EachApart [] ys = Unit {0}
+EachApart (Create path bytes ∷ xs) ys = AreApart path ys × EachApart xs ys
+EachApart (Put path bytes ∷ xs) ys = ⊥
+EachApart (Delete path ∷ xs) ys = ⊥
+
+both_distinct : (xs ys : List Change) → AreDistinct xs → AreDistinct ys → EachApart xs ys → AreDistinct (xs ++ ys)
+both_distinct [] ys left right across = right
+both_distinct (Create path bytes ∷ xs) ys left right across = (both_apart path xs ys left.0 across.0, both_distinct xs ys left.1 right across.1)
+both_distinct (Put path bytes ∷ xs) ys left right across = absurd left
+both_distinct (Delete path ∷ xs) ys left right across = absurd left
+
+-- what stands elsewhere is as it was
+kept : (o : Objects) (path : List ℕ) (changes : List Change) → AreApart path changes → at_path (after_all o changes) path ≡ at_path o path
+kept o path [] apart = refl
+kept o path (Create other bytes ∷ changes) apart = kept (finmap.insert o other bytes) path changes apart.1 ∙ at_other o other bytes path (λ same. apart.0 (sym same))
+kept o path (Put other bytes ∷ changes) apart = absurd apart
+kept o path (Delete other ∷ changes) apart = absurd apart
+
+-- nothing early is the config
+early_plain : (t : ℕ) (path bytes : List ℕ) → IsEarly t path bytes → IsNoConfig path
+early_plain t path bytes (inl (name, named, is, made, reads)) same = other_path name Config named refl (λ config. subst (IsMadeBefore t) config made) (sym is ∙ same)
+early_plain t path bytes (inr (file, stored, dated)) same = never_both path Config file same stored
+
+each_early_plain : (t : ℕ) (changes : List Change) → AreEarly t changes → All IsPlain changes
+each_early_plain t [] are = All-nil IsPlain
+each_early_plain t (Create path bytes ∷ changes) are = All-cons IsPlain (Create path bytes) changes (early_plain t path bytes are.0) (each_early_plain t changes are.1)
+each_early_plain t (Put path bytes ∷ changes) are = absurd are
+each_early_plain t (Delete path ∷ changes) are = absurd are
+
+-- ---- the names of a commit
+
+module _ (t : ℕ) (meant : 0 < t) (small : t < 10 ^ 17) where
   named : IsObjectName (commit_name t)
   named = both (nat_lt 0 t) (is_instant t) (lt_true 0 t meant) (lt_true t (10 ^ 17) small)
 
   delta_named : IsObjectName (delta_name t)
   delta_named = both (nat_lt 0 t || false) (is_instant t) (either (nat_lt 0 t) false (lt_true 0 t meant)) (lt_true t (10 ^ 17) small)
 
-  abbrev written : DataFile
-  written = record { partition = file.partition; file = file.file; at = t }
+  stored : (file : FileText) → IsFileText file → IsDataFileAt (data_file file t) (record { partition = file.partition; file = file.file; at = t })
+  stored file is = record { partition = is.partition; group = is.id; meant = meant; small = small; is = refl }
 
-  stored : IsDataFileAt (data_file file t) written
-  stored = record { partition = plot; group = id; meant = meant; small = small; is = refl }
+  is_data : (file : FileText) → IsFileText file → IsDataFileOf t (data_file file t)
+  is_data file is = (_, stored file is, refl)
 
-  is_data : IsDataFileOf t (data_file file t)
-  is_data = (written, stored, refl)
+  data_other : (file : FileText) → IsFileText file → (name : ObjectName) → data_file file t ≢ object_path name
+  data_other file is name same = never_both (data_file file t) name _ same (stored file is)
 
-  data_apart : (name : ObjectName) → data_file file t ≢ object_path name
-  data_apart name same = never_both (data_file file t) name written same stored
+  -- ---- the data files
 
-  -- ---- the early ones
+  planned_all : (files : List FileText) → All IsFileText files → All (IsDataFileOf t) (map (λ (file : FileText). data_file file t) files)
+  planned_all [] are = All-nil (IsDataFileOf t)
+  planned_all (file ∷ files) are = All-cons (IsDataFileOf t) (data_file file t) _ (is_data file (All-head IsFileText file files are)) (planned_all files (All-tail IsFileText file files are))
 
-  early : AreEarly t (early_changes file t)
+  data_early : (files : List FileText) → All IsFileText files → AreEarly t (data_changes files t)
+  data_early [] are = tt
+  data_early (file ∷ files) are = (inr (is_data file (All-head IsFileText file files are)), data_early files (All-tail IsFileText file files are))
+
+  -- no object stands where a data file does
+  object_apart : (name : ObjectName) (files : List FileText) → All IsFileText files → AreApart (object_path name) (data_changes files t)
+  object_apart name [] are = tt
+  object_apart name (file ∷ files) are = (data_other file (All-head IsFileText file files are) name, object_apart name files (All-tail IsFileText file files are))
+
+  same_group : (x y : FileText) → IsFileText x → IsFileText y → data_file y t ≡ data_file x t → IsSameGroup x y
+  same_group x y is_x is_y same =
+      let parts = one_file y.partition x.partition y.file x.file t t (length-IsFileId y.file is_y.id) (length-IsFileId x.file is_x.id) small small same in (sym parts.0, sym parts.1)
+
+  file_apart : (file : FileText) (files : List FileText) → IsFileText file → All IsFileText files → All (λ (other : FileText). ¬ (IsSameGroup file other)) files → AreApart (data_file file t) (data_changes files t)
+  file_apart file [] is are apart = tt
+  file_apart file (other ∷ files) is are apart = (
+    λ same. All-head (λ (o : FileText). ¬ (IsSameGroup file o)) other files apart (same_group file other is (All-head IsFileText other files are) same),
+    file_apart file files is (All-tail IsFileText other files are) (All-tail (λ (o : FileText). ¬ (IsSameGroup file o)) other files apart),
+  )
+
+  data_distinct : (files : List FileText) → All IsFileText files → AreApartFiles files → AreDistinct (data_changes files t)
+  data_distinct [] are apart = tt
+  data_distinct (file ∷ files) are apart =
+      (file_apart file files (All-head IsFileText file files are) (All-tail IsFileText file files are) apart.0, data_distinct files (All-tail IsFileText file files are) apart.1)
+
+  -- ---- the log
+
+  added_early : (files : List FileText) → added_of (compact_text (added_data (files_added files t))) ≡ Some (files_added files t) → AreEarly t (added_changes files t)
+  added_early [] reads = tt
+  added_early (file ∷ files) reads = (inl (log_name t, named, refl, refl, λ o available. is_some_same _ _ reads refl), tt)
+
+  logs_all : (files : List FileText) → All (IsLogOf t) (logs_written files t)
+  logs_all [] = All-nil (IsLogOf t)
+  logs_all (file ∷ files) = All-cons (IsLogOf t) (object_path (log_name t)) [] (Files, 0, named, refl) (All-nil (IsLogOf t))
+
+  added_apart : (path : List ℕ) (files : List FileText) → object_path (log_name t) ≢ path → AreApart path (added_changes files t)
+  added_apart path [] other = tt
+  added_apart path (file ∷ files) other = (other, tt)
+
+  added_distinct : (files : List FileText) → AreDistinct (added_changes files t ++ Create (object_path (delta_name t)) (compact_text (delta_meta_data (logs_written files t))) ∷ [])
+  added_distinct [] = (tt, tt)
+  added_distinct (file ∷ files) = ((other_path (delta_name t) (log_name t) delta_named named (λ same. absurd (cc same)), tt), (tt, tt))
+
+  -- what stands elsewhere than the log and the object that names it
+  logs_apart : (path : List ℕ) (files : List FileText) → object_path (delta_mark t) ≢ path → object_path (log_name t) ≢ path → object_path (delta_name t) ≢ path → AreApart path (log_changes files t)
+  logs_apart path files mark log delta = (mark, both_apart path (added_changes files t) _ (added_apart path files log) (delta, tt))
+
+  log_changes_distinct : (files : List FileText) → AreDistinct (log_changes files t)
+  log_changes_distinct files = (
+    both_apart (object_path (delta_mark t)) (added_changes files t) _ (added_apart (object_path (delta_mark t)) files (other_path (log_name t) (delta_mark t) named delta_named (λ same. absurd (cc same))))
+        (other_path (delta_name t) (delta_mark t) delta_named delta_named (λ same. absurd (cc same)), tt),
+    added_distinct files,
+  )
+
+  data_logs : (all files : List FileText) → All IsFileText files → EachApart (data_changes files t) (log_changes all t)
+  data_logs all [] are = tt
+  data_logs all (file ∷ files) are =
+      let other = λ (name : ObjectName) (same : object_path name ≡ data_file file t). data_other file (All-head IsFileText file files are) name (sym same) in
+      (logs_apart (data_file file t) all (other (delta_mark t)) (other (log_name t)) (other (delta_name t)), data_logs all files (All-tail IsFileText file files are))
+
+  -- what the log adds, once it is made where nothing stood
+  log_after : (o : Objects) (files : List FileText) (text : List ℕ) → at_path o (object_path (log_name t)) ≡ None → added_of (compact_text (added_data (files_added files t))) ≡ Some (files_added files t)
+      → unwrap_or (option_and_then added_of (at_path (after_all o (added_changes files t ++ Create (object_path (delta_name t)) text ∷ [])) (object_path (log_name t)))) [] ≡ files_added files t
+  log_after o [] text none reads =
+      ap (λ (x : Option (List ℕ)). unwrap_or (option_and_then added_of x) []) (at_other o (object_path (delta_name t)) text (object_path (log_name t)) (other_path (log_name t) (delta_name t) named delta_named (λ same. absurd (cc same))) ∙ none)
+  log_after o (file ∷ files) text none reads =
+      let log = compact_text (added_data (files_added (file ∷ files) t)) in
+      ap (λ (x : Option (List ℕ)). unwrap_or (option_and_then added_of x) [])
+      (at_other (finmap.insert o (object_path (log_name t)) log) (object_path (delta_name t)) text (object_path (log_name t)) (other_path (log_name t) (delta_name t) named delta_named (λ same. absurd (cc same))) ∙ at_same o (object_path (log_name t)) log)
+      ∙ ap (λ (x : Option (List AddedFile)). unwrap_or x []) reads
+
+  delta_after : (o : Objects) (files : List FileText) (text : List ℕ) → at_path (after_all o (added_changes files t ++ Create (object_path (delta_name t)) text ∷ [])) (object_path (delta_name t)) ≡ Some text
+  delta_after o [] text = at_same o (object_path (delta_name t)) text
+  delta_after o (file ∷ files) text = at_same _ (object_path (delta_name t)) text
+
+  logs_after : (o : Objects) (files : List FileText) (text : List ℕ) → All (λ (path : List ℕ). IsSome (at_path (after_all o (added_changes files t ++ Create (object_path (delta_name t)) text ∷ [])) path)) (logs_written files t)
+  logs_after o [] text = All-nil _
+  logs_after o (file ∷ files) text =
+      let log = compact_text (added_data (files_added (file ∷ files) t)) in
+      All-cons (λ (path : List ℕ). IsSome (at_path (after_all o (added_changes (file ∷ files) t ++ Create (object_path (delta_name t)) text ∷ [])) path)) (object_path (log_name t)) []
+      (is_some_same _ _ (at_other (finmap.insert o (object_path (log_name t)) log) (object_path (delta_name t)) text (object_path (log_name t)) (other_path (log_name t) (delta_name t) named delta_named (λ same. absurd (cc same))) ∙ at_same o (object_path (log_name t)) log) refl)
+      (All-nil _)
+
+  -- ---- what the object names
+
+  paths_written : (files : List FileText) (written : List Written) → AreWritten files t written → All (λ (w : Written). w.stat.path ≡ data_path w.partition w.stat.file_id t) written
+  paths_written files [] are = All-nil _
+  paths_written [] (w ∷ ws) are = absurd are
+  paths_written (file ∷ files) (w ∷ ws) are =
+      All-cons (λ (x : Written). x.stat.path ≡ data_path x.partition x.stat.file_id t) w ws (subst (λ (x : Written). x.stat.path ≡ data_path x.partition x.stat.file_id t) (sym are.0.1) refl) (paths_written files ws are.1)
+
+module _ (files : List FileText) (t : ℕ) (names : All IsFileText files) (apart : AreApartFiles files) (meant : 0 < t) (small : t < 10 ^ 17) (written : List Written) (entries : AreWritten files t written) (meta : CommitMeta) (is_meta : IsMetaOf written meta) (reads : ReadsBack files t meta) where
+  abbrev delta_text : List ℕ
+  delta_text = compact_text (delta_meta_data (logs_written files t))
+
+  abbrev is_named : IsObjectName (commit_name t)
+  is_named = named t meant small
+
+  abbrev is_delta : IsObjectName (delta_name t)
+  is_delta = delta_named t meant small
+
+  early : AreEarly t (early_changes files t)
   early = (
-    inl (requested_name t, named, refl, refl, λ o. empty_object),
+    inl (requested_name t, is_named, refl, refl, λ o. empty_object),
     (
-      inl (inflight_name t, named, refl, refl, λ o. (files_planned file t, reads.planned, All-cons (IsDataFileOf t) (data_file file t) [] is_data (All-nil (IsDataFileOf t)))),
-      (
-        inr is_data,
-        (
-          inl (delta_mark t, delta_named, refl, refl, λ o. empty_object),
-          (
-            inl (log_name t, named, refl, refl, λ o available. is_some_same _ _ reads.added refl),
-            (
-              inl (delta_name t, delta_named, refl, refl, λ o. (logs_written t, reads.logs, All-cons (IsLogOf t) (object_path (log_name t)) [] (Files, 0, named, refl) (All-nil (IsLogOf t)))),
-              tt,
-            ),
-          ),
-        ),
+      inl (inflight_name t, is_named, refl, refl, λ o. (files_planned files t, reads.planned, planned_all t meant small files names)),
+      both_early t (data_changes files t) (log_changes files t) (data_early t meant small files names) (
+        inl (delta_mark t, is_delta, refl, refl, λ o. empty_object),
+        both_early t (added_changes files t) (Create (object_path (delta_name t)) delta_text ∷ []) (added_early t meant small files reads.added)
+            (inl (delta_name t, is_delta, refl, refl, λ o. (logs_written files t, reads.logs, logs_all t meant small files)), tt),
       ),
     ),
   )
 
-  distinct : AreDistinct (early_changes file t)
+  distinct : AreDistinct (early_changes files t)
   distinct = (
     (
-      other_path (inflight_name t) (requested_name t) named named (λ same. absurd (cc same)),
-      (
-        data_apart (requested_name t),
-        (
-          other_path (delta_mark t) (requested_name t) delta_named named (λ same. absurd (cc same)),
-          (other_path (log_name t) (requested_name t) named named (λ same. absurd (cc same)), (other_path (delta_name t) (requested_name t) delta_named named (λ same. absurd (cc same)), tt)),
-        ),
-      ),
+      other_path (inflight_name t) (requested_name t) is_named is_named (λ same. absurd (cc same)),
+      both_apart (object_path (requested_name t)) (data_changes files t) (log_changes files t) (object_apart t meant small (requested_name t) files names)
+          (logs_apart t meant small (object_path (requested_name t)) files (other_path (delta_mark t) (requested_name t) is_delta is_named (λ same. absurd (cc same)))
+          (other_path (log_name t) (requested_name t) is_named is_named (λ same. absurd (cc same))) (other_path (delta_name t) (requested_name t) is_delta is_named (λ same. absurd (cc same)))),
     ),
     (
-      (
-        data_apart (inflight_name t),
-        (
-          other_path (delta_mark t) (inflight_name t) delta_named named (λ same. absurd (cc same)),
-          (other_path (log_name t) (inflight_name t) named named (λ same. absurd (cc same)), (other_path (delta_name t) (inflight_name t) delta_named named (λ same. absurd (cc same)), tt)),
-        ),
-      ),
-      (
-        (λ same. data_apart (delta_mark t) (sym same), (λ same. data_apart (log_name t) (sym same), (λ same. data_apart (delta_name t) (sym same), tt))),
-        (
-          (other_path (log_name t) (delta_mark t) named delta_named (λ same. absurd (cc same)), (other_path (delta_name t) (delta_mark t) delta_named delta_named (λ same. absurd (cc same)), tt)),
-          ((other_path (delta_name t) (log_name t) delta_named named (λ same. absurd (cc same)), tt), (tt, tt)),
-        ),
-      ),
+      both_apart (object_path (inflight_name t)) (data_changes files t) (log_changes files t) (object_apart t meant small (inflight_name t) files names)
+          (logs_apart t meant small (object_path (inflight_name t)) files (other_path (delta_mark t) (inflight_name t) is_delta is_named (λ same. absurd (cc same)))
+          (other_path (log_name t) (inflight_name t) is_named is_named (λ same. absurd (cc same))) (other_path (delta_name t) (inflight_name t) is_delta is_named (λ same. absurd (cc same)))),
+      both_distinct (data_changes files t) (log_changes files t) (data_distinct t meant small files names apart) (log_changes_distinct t meant small files) (data_logs t meant small files files names),
     ),
   )
 
-  object_plain : (name : ObjectName) → IsObjectName name → name ≢ Config → IsNoConfig (object_path name)
-  object_plain name is differ = other_path name Config is refl differ
+  -- what is made before the log
+  abbrev front : List Change
+  front = file_changes files t ++ Create (object_path (delta_mark t)) (codes "{}") ∷ []
 
-  each_plain : EachPlain (commit_changes file t prev)
-  each_plain = (
-    object_plain (requested_name t) named (λ same. absurd (cc same)),
+  abbrev behind : List Change
+  behind = added_changes files t ++ Create (object_path (delta_name t)) delta_text ∷ []
+
+  splits : front ++ behind ≡ early_changes files t
+  splits = append_assoc (file_changes files t) (Create (object_path (delta_mark t)) (codes "{}") ∷ []) behind
+
+  log_apart : AreApart (object_path (log_name t)) front
+  log_apart = (
+    other_path (requested_name t) (log_name t) is_named is_named (λ same. absurd (cc same)),
     (
-      object_plain (inflight_name t) named (λ same. absurd (cc same)),
-      (
-        data_apart Config,
-        (
-          object_plain (delta_mark t) delta_named (λ same. absurd (cc same)),
-          (
-            object_plain (log_name t) named (λ same. absurd (cc same)),
-            (object_plain (delta_name t) delta_named (λ same. absurd (cc same)), (object_plain (commit_name t) named (λ same. absurd (cc same)), tt)),
-          ),
-        ),
-      ),
+      other_path (inflight_name t) (log_name t) is_named is_named (λ same. absurd (cc same)),
+      both_apart (object_path (log_name t)) (data_changes files t) (Create (object_path (delta_mark t)) (codes "{}") ∷ []) (object_apart t meant small (log_name t) files names)
+          (other_path (delta_mark t) (log_name t) is_delta is_named (λ same. absurd (cc same)), tt),
     ),
   )
+
+  names_files : NamesItsFiles t meta
+  names_files =
+      All-weaker (Contains meta.partitions) (λ (p : PartitionStats). All (λ (s : WriteStat). s.path ≡ data_path p.partition s.file_id t) p.stats)
+      (λ p has. All-weaker (Contains p.stats) (λ (s : WriteStat). s.path ≡ data_path p.partition s.file_id t)
+      (λ s in_p. All-contains (λ (w : Written). w.stat.path ≡ data_path w.partition w.stat.file_id t) written (record { partition = p.partition; stat = s }) (paths_written t meant small files written entries)
+      (is_meta.only (record { partition = p.partition; stat = s }) (p, has, refl, in_p)))
+      p.stats (All-contains_itself p.stats))
+      meta.partitions (All-contains_itself meta.partitions)
 
   -- ---- over a journal in whose folder no name has so great an instant
 
@@ -191,98 +311,87 @@ module _ (file : FileText) (t : ℕ) (plot : IsPartition file.partition) (id : I
     pending : ¬ (IsCompleted (objects_of journal) t)
     pending done = omega (arith, above, not_above t done)
 
-    allowed : AreAllowed (objects_of journal) (early_changes file t)
-    allowed = allowed_absent (objects_of journal) (early_changes file t) distinct (all_absent (objects_of journal) last t (early_changes file t) upto above early)
+    allowed : AreAllowed (objects_of journal) (early_changes files t)
+    allowed = allowed_absent (objects_of journal) (early_changes files t) distinct (all_absent (objects_of journal) last t (early_changes files t) upto above early)
 
     abbrev before_it : Objects
-    before_it = objects_of (journal ++ early_changes file t)
+    before_it = objects_of (journal ++ early_changes files t)
 
-    here : (q : List ℕ) → at_path before_it q ≡ at_path (after_all (objects_of journal) (early_changes file t)) q
-    here q = ap (λ (o : Objects). at_path o q) (after_all-append finmap.empty journal (early_changes file t))
+    abbrev before_log : Objects
+    before_log = after_all (objects_of journal) front
 
-    log_stands : at_path before_it (object_path (log_name t)) ≡ Some (compact_text (added_data (files_added file t)))
-    log_stands = here (object_path (log_name t)) ∙ at_other _ (object_path (delta_name t)) _ (object_path (log_name t)) (other_path (log_name t) (delta_name t) named delta_named (λ same. absurd (cc same))) ∙ at_same _ (object_path (log_name t)) _
+    here : before_it ≡ after_all before_log behind
+    here = after_all-append finmap.empty journal (early_changes files t) ∙ ap (after_all (objects_of journal)) (sym splits) ∙ after_all-append (objects_of journal) front behind
 
-    delta_stands : at_path before_it (object_path (delta_name t)) ≡ Some (compact_text (delta_meta_data (logs_written t)))
-    delta_stands = here (object_path (delta_name t)) ∙ at_same _ (object_path (delta_name t)) _
+    no_log : at_path before_log (object_path (log_name t)) ≡ None
+    no_log = kept (objects_of journal) (object_path (log_name t)) front log_apart ∙ absent_above (objects_of journal) last t (object_path (log_name t)) upto (inl (log_name t, is_named, refl, refl)) above
 
     completed_before : (at : ℕ) → IsCompleted before_it at → IsCompleted (objects_of journal) at
-    completed_before at done = all_completed_after journal t (early_changes file t) early pending at done
+    completed_before at done = all_completed_after journal t (early_changes files t) early pending at done
 
-    logged : added_at before_it t ≡ files_of (record { at = t; meta = meta_written file t prev })
+    added : added_at before_it t ≡ files_added files t
     unfolding added_at
-    logged = ap (λ (x : Option (List ℕ)). unwrap_or (option_and_then added_of x) []) (object_at-is before_it (log_name t) named ∙ log_stands) ∙ ap (λ (x : Option (List AddedFile)). unwrap_or x []) reads.added
+    added =
+        ap (λ (x : Option (List ℕ)). unwrap_or (option_and_then added_of x) []) (object_at-is before_it (log_name t) is_named ∙ ap (λ (o : Objects). at_path o (object_path (log_name t))) here)
+        ∙ log_after t meant small before_log files delta_text no_log reads.added
 
-    names_files : NamesItsFiles t (meta_written file t prev)
-    names_files = All-cons (λ (p : PartitionStats). All (λ (s : WriteStat). s.path ≡ data_path p.partition s.file_id t) p.stats) _ [] (All-cons (λ (s : WriteStat). s.path ≡ data_path file.partition s.file_id t) _ [] refl (All-nil _)) (All-nil _)
-
-    may_complete : MayComplete before_it t (compact_text (commit_meta_data (meta_written file t prev)))
+    may_complete : MayComplete before_it t (compact_text (commit_meta_data meta))
     may_complete = record {
-      is_name = named;
-      absent = sym (object_at-is before_it (commit_name t) named) ∙ none_from _ (λ done. pending (completed_before t done));
+      is_name = is_named;
+      absent = sym (object_at-is before_it (commit_name t) is_named) ∙ none_from _ (λ done. pending (completed_before t done));
       newest = λ other done. omega (arith, above, not_above other (completed_before other done));
-      meta = meta_written file t prev;
-      reads = reads.meta;
+      meta = meta;
+      reads = reads.completes;
       names = names_files;
-      delta = compact_text (delta_meta_data (logs_written t));
-      delta_at = object_at-is before_it (delta_name t) delta_named ∙ delta_stands;
-      logs = logs_written t;
+      delta = delta_text;
+      delta_at = object_at-is before_it (delta_name t) is_delta ∙ ap (λ (o : Objects). at_path o (object_path (delta_name t))) here ∙ delta_after t meant small before_log files delta_text;
+      logs = logs_written files t;
       delta_reads = reads.logs;
-      stand = All-cons (λ (path : List ℕ). IsSome (at_path before_it path)) (object_path (log_name t)) [] (is_some_same _ _ log_stands refl) (All-nil _);
-      logged = logged;
+      stand = subst (λ (o : Objects). All (λ (path : List ℕ). IsSome (at_path o path)) (logs_written files t)) (sym here) (logs_after t meant small before_log files delta_text);
+      logged = λ m. ap (fold with_file m) added ∙ logged_listed files t written meta apart entries is_meta m;
     }
 
-    completes : (after : ℕ) → t ≤ after → MayChange (journal ++ early_changes file t) after (completion file t prev)
+    completes : (after : ℕ) → t ≤ after → MayChange (journal ++ early_changes files t) after (completion t meta)
     completes after later = record {
       allowed = may_complete.absent;
-      instants = λ at names. subst (λ (x : Option ℕ). unwrap_or x 0 ≤ after) (named_instant (object_path (commit_name t)) (commit_name t) named refl at names) later;
-      keeps = λ valid. subst IsValidTable (sym (objects_of-push (journal ++ early_changes file t) (completion file t prev)))
-          (completion_keeps before_it (finmap.insert before_it (object_path (commit_name t)) (compact_text (commit_meta_data (meta_written file t prev)))) t _ may_complete
+      instants = λ at of. subst (λ (x : Option ℕ). unwrap_or x 0 ≤ after) (named_instant (object_path (commit_name t)) (commit_name t) is_named refl at of) later;
+      keeps = λ valid. subst IsValidTable (sym (objects_of-push (journal ++ early_changes files t) (completion t meta)))
+          (completion_keeps before_it (finmap.insert before_it (object_path (commit_name t)) (compact_text (commit_meta_data meta))) t _ may_complete
           (at_same before_it (object_path (commit_name t)) _) (λ other differ. at_other before_it (object_path (commit_name t)) _ other differ) valid);
     }
 
-    from_there : MayChangeInTurn journal t (commit_changes file t prev)
-    from_there = may_all_early journal t t (early_changes file t) (completion file t prev ∷ []) early allowed pending (omega arith)
+    from_there : MayChangeInTurn journal t (commit_changes files t meta)
+    from_there = may_all_early journal t t (early_changes files t) (completion t meta ∷ []) early allowed pending (omega arith)
         (λ after later then drawn. (completes then (omega (arith, later, drawn_rises (object_path (commit_name t)) after then drawn)), tt))
 
-    pub may_commit : t ≡ last + 1 → MayChangeInTurn journal last (commit_changes file t prev)
+    may_commit : t ≡ last + 1 → MayChangeInTurn journal last (commit_changes files t meta)
     may_commit next = λ after drawn. from_there after (again after drawn)
       where
         again : (after : ℕ) → IsDrawnBy (object_path (requested_name t)) last after → IsDrawnBy (object_path (requested_name t)) t after
         again after drawn = record {
           drawn = λ at requests.
               let is : at ≡ t = early_instant t (object_path (requested_name t)) (codes "{}") early.0 at (inl (Timeline at requests.0 Requested, requests.1, requests.2, refl)) in
-              drawn.drawn t (action.Commit, named, refl) ∙ same_max last t next ∙ ap (max t) (sym is);
-          kept = λ never. absurd (never t (action.Commit, named, refl));
+              drawn.drawn t (action.Commit, is_named, refl) ∙ same_max last t next ∙ ap (max t) (sym is);
+          kept = λ never. absurd (never t (action.Commit, is_named, refl));
         }
 
-  pub may_commit_told : (opening journal : Option (List Change)) (m : Mirror) (last applied : ℕ) (doubt : Option Change) → Stands opening journal m last applied doubt → t ≡ last + 1 → MayMakeInTurn journal doubt last (commit_changes file t prev)
+  may_commit_told : (opening journal : Option (List Change)) (m : Mirror) (last applied : ℕ) (doubt : Option Change) → Stands opening journal m last applied doubt → t ≡ last + 1 → MayMakeInTurn journal doubt last (commit_changes files t meta)
   may_commit_told opening None m last applied doubt stands next = tt
   may_commit_told opening (Some journal) m last applied (Some change) stands next = tt
   may_commit_told None (Some journal) m last applied None stands next = absurd (cc stands)
   may_commit_told (Some opening) (Some journal) m last applied None stands next = may_commit journal last stands.instants (omega (arith, next)) next
 
-  pub commit_plain : (changes : List Change) → changes ≡ commit_changes file t prev → All IsPlain changes
-  commit_plain changes is = subst (All IsPlain) (sym is) (all_plain (commit_changes file t prev) each_plain)
+  commit_plain : All IsPlain (commit_changes files t meta)
+  commit_plain = All-append IsPlain (early_changes files t) (completion t meta ∷ []) (each_early_plain t (early_changes files t) early)
+      (All-cons IsPlain (completion t meta) [] (other_path (commit_name t) Config is_named refl (λ same. absurd (cc same))) (All-nil IsPlain))
 
--- ---- what is written
+-- ---- a plan of them
 
--- one log stands by partition and shard
-pub one_log : (t : ℕ) → 0 < t → t < 10 ^ 17 → stands_in_order ShardLog (logs_written t) ≡ true
-unfolding stands_in_order
-one_log t meant small = ap (λ (x : Option Place). option_map_or (is_rising place_below) (option_and_then (λ place. option_map (λ places. place ∷ places) (Some [])) x) false) (sym found)
-  where
-    found : place_in ShardLog (log_name t) ≡ place_of ShardLog (object_path (log_name t))
-    found = place_found ShardLog (object_path (log_name t)) (Some (log_name t)) (both (nat_lt 0 t) (is_instant t) (lt_true 0 t meant) (lt_true t (10 ^ 17) small), refl)
-        (λ other named is. ap (λ (n : ObjectName). Some n) (object_path-injective (log_name t) other (both (nat_lt 0 t) (is_instant t) (lt_true 0 t meant) (lt_true t (10 ^ 17) small)) named is))
+module _ (files : List FileText) (t : ℕ) (written : List Written) (changes : List Change) (names : All IsFileText files) (apart : AreApartFiles files) (meant : 0 < t) (small : t < 10 ^ 17) (entries : AreWritten files t written) (plan : IsPlanOf files written t changes) where
+  pub planned_plain : All IsPlain changes
+  planned_plain = subst (All IsPlain) (sym plan.are) (commit_plain files t names apart meant small written entries plan.meta plan.is_meta plan.reads)
 
-pub one_log_meta : (t : ℕ) (found : Option (List (List ℕ))) (logs : List (List ℕ)) → 0 < t → t < 10 ^ 17 → logs ≡ logs_written t → SomeIff found (stands_in_order ShardLog logs ≡ true) logs → found ≡ None → ⊥
-one_log_meta t None logs meant small is tells none = tells (ap (stands_in_order ShardLog) is ∙ one_log t meant small)
-one_log_meta t (Some x) logs meant small is tells none = absurd (cc none)
-
--- where memory ran out before the first change, nothing was changed
-pub stops_first : (file : FileText) (t : ℕ) (prev : Option ℕ) (before : Standing) → StopsAt (commit_changes file t prev) before before NoMemory
-stops_first file t prev before = record { front = []; change = Create (object_path (requested_name t)) (codes "{}"); behind = _; splits = refl; during = before; made = refl; stopped = refl }
-
-pub stopped_commit : (file : FileText) (prev : Option ℕ) (before : Standing) (result : Result ℕ CommitError) → result ≡ Err (Stopped NoMemory) → Commits file prev before before result
-stopped_commit file prev before result is = subst (λ (r : Result ℕ CommitError). Commits file prev before before r) (sym is) (stops_first file (before.last + 1) prev before)
+  pub planned_may : (opening journal : Option (List Change)) (m : Mirror) (last applied : ℕ) (doubt : Option Change) → Stands opening journal m last applied doubt → t ≡ last + 1 → MayMakeInTurn journal doubt last changes
+  planned_may opening journal m last applied doubt stands next =
+      subst (λ (cs : List Change). MayMakeInTurn journal doubt last cs) (sym plan.are)
+      (may_commit_told files t names apart meant small written entries plan.meta plan.is_meta plan.reads opening journal m last applied doubt stands next)

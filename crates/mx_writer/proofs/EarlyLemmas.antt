@@ -31,9 +31,9 @@ use Rattle.mx_folder.specs.Steps.{IsLoose, MayStand, IsMadeBefore}
 use Rattle.mx_folder.proofs.LooseLemmas.{loose_keeps}
 use Rattle.mx_folder.proofs.NamedLemmas.{object_at-same, is_some_same}
 use Rattle.mx_folder.proofs.PendingLemmas.{pending_loose, hidden_object, outside_loose}
-use Rattle.mx_mirror.specs.Instants.{NamesInstant, AreUpto, Requests, IsDrawnBy, instant_of}
-use Rattle.mx_mirror.specs.State.{MayChange}
-use Rattle.mx_mirror.specs.Turns.{MayChangeInTurn}
+use Rattle.mx_world.specs.Instants.{NamesInstant, AreUpto, Requests, IsDrawnBy, instant_of}
+use Rattle.mx_world.specs.State.{MayChange}
+use Rattle.mx_world.specs.Turns.{MayChangeInTurn}
 
 -- ---- data files stand outside
 

@@ -1,3 +1,3 @@
 pub mod EarlyLemmas
 pub mod CommitLemmas
-pub mod PlanLemmas
+pub mod EntryLemmas

@@ -1,13 +1,15 @@
-ghost use Rattle.std.specs.Prelude.{◌≡◌, None};
+ghost use Rattle.std.specs.Prelude.{◌≡◌, IfOk, None};
 
 use crate::{CommitError, commit};
 use mx_ask::FileText;
 use mx_base::{FileId, Instant, Part, Partition, Path};
 use mx_lists::{Bytes, Listed, Text};
-use mx_mirror::{ChangeError, Mirror, Mirrored};
+use mx_meta::{CommitMeta, PartitionStats, WriteStat};
+use mx_model::Action;
 use mx_props::Props;
 use mx_schema::Schema;
 use mx_store::{MemStore, Store, StoreError};
+use mx_world::{ChangeError, Mirror, World};
 use std::alloc::Global;
 use std::marker::Brand;
 use std::test::Fail;
@@ -99,29 +101,48 @@ fn config(alloc: Global) -> Result<Props, Fail> {
 }
 
 // A table of no objects whose store's call of this number fails and is not applied.
-fn table(alloc: Global, last: u64, failing: u64) -> Result<Mirrored<Quiet, Brand>, Fail> {
+fn table(alloc: Global, last: u64, failing: u64) -> Result<World<Quiet, Brand>, Fail>
+    ensures { IfOk result (λ table. table.doubt ≡ None) }
+{
     let mut inner = MemStore::empty(alloc);
     inner.fail(failing, false)?;
-    let mirror = Mirror::of(alloc, config(alloc)?, &[])?;
+    let mirror = Mirror::of(alloc, config(alloc)?, &[], &[])?;
     match Instant::new(last) {
-        Some(last) => Ok(Mirrored::over(Quiet { inner }, mirror, last, 0)),
+        Some(last) => Ok(World::over(Quiet { inner }, mirror, last, 0)),
         None => Err(Fail::new("the last instant is one")),
     }
 }
 
-fn file(alloc: Global) -> Result<FileText, Fail> {
+fn file(alloc: Global, id: &str) -> Result<FileText, Fail> {
     Ok(FileText {
-        file: FileId::parse("11111111-1111-4111-8111-111111111111")?,
+        file: FileId::parse(id)?,
         partition: Partition::parse(alloc, "2024-01-01")?,
         text: Text::from_str(alloc, "hello")?,
     })
 }
 
+// So many files of the partition, each of a group of its own.
+fn files(alloc: Global, count: u32) -> Result<Vec<FileText>, Fail> {
+    let mut files = Vec::new(alloc);
+    for number in 0..count {
+        let id = format!(in alloc; "{number:08}-1111-4111-8111-111111111111")?;
+        files.push(file(alloc, id.as_str())?)?;
+    }
+    Ok(files)
+}
+
 // The word of the answer to a commit.
-fn committed(alloc: Global, table: &mut Mirrored<Quiet, Brand>) -> Result<&'static str, Fail> {
-    let file = file(alloc)?;
-    Ok(match commit(alloc, table, &file, None) {
+fn committed(
+    alloc: Global,
+    table: &mut World<Quiet, Brand>,
+    files: &[FileText],
+) -> Result<&'static str, Fail>
+    requires sure { table.old.doubt ≡ None }
+{
+    Ok(match commit(alloc, table, files) {
         Ok(_) => "committed",
+        Err(CommitError::TooMany { .. }) => "too many",
+        Err(CommitError::DuplicateGroup { .. }) => "double",
         Err(CommitError::InstantsUsedUp) => "used up",
         Err(
             CommitError::Stopped {
@@ -135,7 +156,7 @@ fn committed(alloc: Global, table: &mut Mirrored<Quiet, Brand>) -> Result<&'stat
 // Whether the bytes stand at the path.
 fn stands(
     alloc: Global,
-    table: &mut Mirrored<Quiet, Brand>,
+    table: &mut World<Quiet, Brand>,
     path: &str,
     text: &str,
 ) -> Result<bool, Fail> {
@@ -147,11 +168,17 @@ fn stands(
     }
 }
 
+fn one_file(alloc: Global) -> Result<Vec<FileText>, Fail> {
+    let mut files = Vec::new(alloc);
+    files.push(file(alloc, "11111111-1111-4111-8111-111111111111")?)?;
+    Ok(files)
+}
+
 #[test]
 fn a_commit_of_one_file_makes_its_seven_objects(rt: HostRuntime) -> Result<(), Fail> {
     let alloc = rt.alloc();
     let mut table = table(alloc, MOMENT - 1, 100)?;
-    let said = committed(alloc, &mut table)?;
+    let said = committed(alloc, &mut table, one_file(alloc)?.as_slice())?;
     assert_eq!(rt; said, "committed");
     assert_eq!(rt; table.seq(), 7);
     assert_eq!(rt; table.last().number(), MOMENT);
@@ -162,12 +189,106 @@ fn a_commit_of_one_file_makes_its_seven_objects(rt: HostRuntime) -> Result<(), F
     Ok(())
 }
 
+// The word of a commit of so many files, and the number of changes.
+fn made(alloc: Global, count: u32, last: u64) -> Result<(&'static str, u64), Fail> {
+    let mut table = table(alloc, last, 100)?;
+    let said = committed(alloc, &mut table, files(alloc, count)?.as_slice())?;
+    Ok((said, table.seq()))
+}
+
+#[test]
+fn a_commit_makes_six_changes_and_one_more_for_each_file_and_five_without(
+    rt: HostRuntime,
+) -> Result<(), Fail> {
+    let alloc = rt.alloc();
+    assert_eq!(rt; made(alloc, 0, MOMENT)?, ("committed", 5));
+    assert_eq!(rt; made(alloc, 2, MOMENT)?, ("committed", 8));
+    assert_eq!(rt; made(alloc, 16, MOMENT)?, ("committed", 22));
+    Ok(())
+}
+
+#[test]
+fn seventeen_files_and_two_of_one_group_are_refused(rt: HostRuntime) -> Result<(), Fail> {
+    let alloc = rt.alloc();
+    assert_eq!(rt; made(alloc, 17, MOMENT)?, ("too many", 0));
+    let mut table = table(alloc, MOMENT, 100)?;
+    let mut twice = files(alloc, 3)?;
+    twice.push(file(alloc, "00000001-1111-4111-8111-111111111111")?)?;
+    let said = committed(alloc, &mut table, twice.as_slice())?;
+    assert_eq!(rt; said, "double");
+    assert_eq!(rt; table.seq(), 0);
+    Ok(())
+}
+
+// A commit that lists so many files, each of a group of its own.
+fn listing(alloc: Global, count: u32) -> Result<Action, Fail> {
+    let partition = Partition::parse(alloc, "2024-01-02")?;
+    let at = Instant::parse("00000000000000001")?;
+    let mut stats = Listed::new(alloc);
+    for number in 0..count {
+        let id = format!(in alloc; "{number:08}-1111-4111-8111-111111111111")?;
+        let file_id = FileId::parse(id.as_str())?;
+        stats.push(WriteStat {
+            file_id,
+            file_size_in_bytes: 0,
+            num_writes: 0,
+            path: Path::of_data_file(alloc, &partition, &file_id, at)?,
+            prev_commit: None,
+        })?;
+    }
+    let mut partitions = Listed::new(alloc);
+    partitions.push(PartitionStats { partition, stats })?;
+    Ok(Action {
+        at,
+        meta: CommitMeta { partitions },
+    })
+}
+
+// The request of each of so many instants.
+fn requests(alloc: Global, count: u64) -> Result<Vec<Path>, Fail> {
+    let mut paths = Vec::new(alloc);
+    for number in 0..count {
+        let path = format!(in alloc; ".hoodie/{number:016}1.commit.requested")?;
+        paths.push(Path::parse(alloc, path.as_str())?)?;
+    }
+    Ok(paths)
+}
+
+// The word of a commit of so many files to a table of so many instants and live files, and the number of changes.
+fn crowded(
+    alloc: Global,
+    instants: u64,
+    live: u32,
+    count: u32,
+) -> Result<(&'static str, u64), Fail> {
+    let commits = [listing(alloc, live)?];
+    let paths = requests(alloc, instants)?;
+    let mirror = Mirror::of(alloc, config(alloc)?, paths.as_slice(), &commits)?;
+    let inner = MemStore::empty(alloc);
+    let Some(last) = Instant::new(MOMENT) else {
+        return Err(Fail::new("the last instant is one"));
+    };
+    let mut table: World<Quiet, Brand> = World::over(Quiet { inner }, mirror, last, 0);
+    let said = committed(alloc, &mut table, files(alloc, count)?.as_slice())?;
+    Ok((said, table.seq()))
+}
+
+#[test]
+fn a_table_takes_8192_instants_and_8192_live_files(rt: HostRuntime) -> Result<(), Fail> {
+    let alloc = rt.alloc();
+    assert_eq!(rt; crowded(alloc, 8191, 8191, 1)?, ("committed", 7));
+    assert_eq!(rt; crowded(alloc, 8192, 0, 1)?, ("too many", 0));
+    assert_eq!(rt; crowded(alloc, 8191, 8192, 1)?, ("too many", 0));
+    assert_eq!(rt; crowded(alloc, 8191, 8192, 0)?, ("committed", 5));
+    Ok(())
+}
+
 #[test]
 fn a_commit_stops_at_the_change_that_fails(rt: HostRuntime) -> Result<(), Fail> {
     let alloc = rt.alloc();
     for failing in 0..7_u64 {
         let mut table = table(alloc, MOMENT - 1, failing)?;
-        let said = committed(alloc, &mut table)?;
+        let said = committed(alloc, &mut table, one_file(alloc)?.as_slice())?;
         assert_eq!(rt; said, "fault");
         assert_eq!(rt; table.seq(), failing);
         assert_eq!(rt; table.last().number(), MOMENT);
@@ -178,9 +299,7 @@ fn a_commit_stops_at_the_change_that_fails(rt: HostRuntime) -> Result<(), Fail> 
 #[test]
 fn no_commit_is_made_behind_the_greatest_instant(rt: HostRuntime) -> Result<(), Fail> {
     let alloc = rt.alloc();
-    let mut table = table(alloc, 99_999_999_999_999_999, 100)?;
-    let said = committed(alloc, &mut table)?;
-    assert_eq!(rt; said, "used up");
-    assert_eq!(rt; table.seq(), 0);
+    assert_eq!(rt; made(alloc, 1, 99_999_999_999_999_999)?, ("used up", 0));
+    assert_eq!(rt; made(alloc, 17, 99_999_999_999_999_999)?, ("too many", 0));
     Ok(())
 }

@@ -1,5 +1,5 @@
 use Rattle.std.specs.Prelude.{Some}
 use Rattle.mdt.proofs.run.Given as goal
 
-abbrev pub ghosts-command : goal.ghosts-command
-ghosts-command a = record { opening = Some a.store.changes; count = a.store.faults; moment = a.now }
+abbrev pub ghosts-run_over : goal.ghosts-run_over
+ghosts-run_over a = record { opening = Some a.store.changes; count = a.store.faults; moment = a.now }

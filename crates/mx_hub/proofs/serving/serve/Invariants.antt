@@ -1,9 +1,8 @@
-use Rattle.std.proofs.Common.{◌≡◌, ℕ, List, true}
+use Rattle.std.proofs.Common.{◌≡◌, ℕ, List}
 use Rattle.mx_store.specs.Streams.{added}
 use Rattle.mx_lines.specs.Ahead.{all_left, budget, CountsBytes}
 use Rattle.mx_lines.specs.Lines.{LinesGo}
-use Rattle.mx_hub.specs.History.{printed_replies}
-use Rattle.mx_hub.specs.Steps.{FitsIf}
+use Rattle.mx_hub.specs.History.{AnswersFit, moment, printed_replies}
 use Rattle.mx_hub.proofs.serving.serve.Given as goal
 
 abbrev pub invariant-loop-line : goal.invariant-loop-line
@@ -11,12 +10,10 @@ invariant-loop-line g l = record {
   lines : List (List ℕ);
   taken : LinesGo (g.I.Source.left l.fn.source) lines (all_left l.ahead (g.I.Source.left l.source));
   count : CountsBytes 0 (g.I.Source.left l.fn.source) l.ahead.taken (g.I.Source.left l.source);
-  fits : FitsIf g.N.Named.moment g.N.Named.opening (g.S.Store.journal l.world.store) lines l.answers;
-  settled : l.world.settled ≡ true;
+  fits : AnswersFit g.N.Named.opening 0 lines l.answers (moment g.S.Store.journal g.S.Store.faults l.fn.table) (moment g.S.Store.journal g.S.Store.faults l.table);
   written : g.O.Sink.written l.sink ≡ added (g.O.Sink.written l.fn.sink) (printed_replies l.answers);
   source_faults : g.I.Source.faults l.source ≡ g.I.Source.faults l.fn.source;
   sink_faults : g.O.Sink.faults l.sink ≡ g.O.Sink.faults l.fn.sink;
-  store_faults : g.S.Store.faults l.world.store ≡ g.S.Store.faults l.fn.world.store;
 }
 
 abbrev pub decreases-loop-line : goal.decreases-loop-line

@@ -1,5 +1,5 @@
 use Rattle.std.proofs.Common.{List, ℕ, sym, subst}
-use Rattle.mx_mirror.specs.Mirror.{IsMirrorOf}
+use Rattle.mx_world.specs.Mirror.{IsMirrorOf}
 use Rattle.mx_lookup.specs.Looking.{AreSizes, ReadsAll, log_paths}
 use Rattle.mx_lookup.proofs.LookLemmas.{files_found}
 use Rattle.mx_lookup.proofs.looking.files.Goals as goal

@@ -1,5 +1,5 @@
 use Rattle.std.proofs.Common.{◌≡◌, take}
-use Rattle.mx_mirror.specs.State.{standing}
+use Rattle.mx_world.specs.State.{standing}
 use Rattle.mx_lookup.specs.Looking.{AreSizes, ReadsAll, log_paths}
 use Rattle.mx_lookup.proofs.looking.sizes_logged.Given as goal
 

@@ -1,7 +1,7 @@
 use Rattle.std.proofs.Common.{sym}
 use Rattle.std.proofs.lemmas.List.Elements.{All-contains}
 use Rattle.mx_folder.specs.Pending.{deletes}
-use Rattle.mx_mirror.specs.Mirror.{IsNoConfig}
+use Rattle.mx_world.specs.Mirror.{IsNoConfig}
 use Rattle.mx_store.specs.Objects.{after_all}
 use Rattle.std.proofs.Common.{take}
 use Rattle.mx_recovery.proofs.PlanLemmas.{deleted_next}

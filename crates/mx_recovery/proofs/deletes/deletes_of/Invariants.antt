@@ -1,6 +1,6 @@
 use Rattle.std.proofs.Common.{take}
 use Rattle.std.specs.Prelude.{All}
-use Rattle.mx_mirror.specs.Mirror.{IsNoConfig}
+use Rattle.mx_world.specs.Mirror.{IsNoConfig}
 use Rattle.mx_store.specs.Objects.{Objects}
 use Rattle.mx_recovery.specs.Planning.{AreStanding, IsDeletion}
 use Rattle.mx_recovery.proofs.PlanLemmas.{AreDeleted}

@@ -1,7 +1,7 @@
 use Rattle.std.proofs.Common.{IfSome, sym, ap, subst}
 use Rattle.mx_store.specs.Objects.{objects_of}
-use Rattle.mx_mirror.specs.State.{standing}
-use Rattle.mx_mirror.specs.Turns.{AreMade, StopsAt}
+use Rattle.mx_world.specs.State.{standing}
+use Rattle.mx_world.specs.Turns.{AreMade, StopsAt}
 use Rattle.mx_recovery.specs.Planning.{IsPlanOf}
 use Rattle.mx_recovery.proofs.TurnLemmas.{may_recover, made_sure, opened, opens_err, opens_ok, stands_valid, stops}
 use Rattle.mx_recovery.proofs.opening.recover.Goals as goal

@@ -2,7 +2,7 @@ use Rattle.std.proofs.Common.{◌≡◌, ◌||◌, ℕ, List, sym, ◌∙◌, ap
 use Rattle.std.specs.Prelude.{All, IfOk}
 use Rattle.std.specs.List.{flat_map}
 use Rattle.mx_folder.specs.Pending.{deletes, left_by}
-use Rattle.mx_mirror.specs.Mirror.{IsNoConfig}
+use Rattle.mx_world.specs.Mirror.{IsNoConfig}
 use Rattle.mx_recovery.specs.Planning.{stands_among}
 use Rattle.mx_recovery.proofs.PlanLemmas.{left_no_config, standing_is}
 use Rattle.mx_recovery.proofs.plan.recovery_of.Goals as goal

@@ -1,5 +1,0 @@
-use Rattle.std.specs.Prelude.{Some}
-use Rattle.mdt.proofs.tests.a_store_that_fails_ends_the_run_without_a_reply_to_that_line.Given as goal
-
-abbrev pub ghosts-run : goal.ghosts-run
-ghosts-run g a = record { opening = Some a.store.changes; count = a.store.faults; moment = 20250101000000000 }

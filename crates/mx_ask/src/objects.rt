@@ -1,0 +1,66 @@
+ghost use Rattle.std.specs.Prelude.{◌≡◌, ◌≢◌, ℕ, Option, Some, MatchOption, codes};
+ghost use Rattle.serde_json.specs.Data.{Data, Members, string};
+ghost use Rattle.serde_json.specs.Find.{get};
+ghost use Rattle.serde_json.specs.View.{view, members_view};
+ghost use Rattle.mx_ask.specs.Asks.{commit_object, look_up_object, IsSession, IsSessionNumber, IsMoment};
+
+use crate::fields::{instant_in, session_in};
+use crate::members::next_member;
+use mx_base::Instant;
+use serde_json::Value;
+use std::collections::btree_map::Iter;
+
+/// The list of files and the session of a commit.
+pub fn commit_parts(value: &Value) -> Option<(&Value, u32)>
+    requires { get (codes "ask") (view value.now) ≡ Some (string (codes "commit")) }
+    ensures { MatchOption result
+        ((files : Data) (session : ℕ) (rest : Members) → IsSessionNumber session → IsSession session rest
+        → view value.now ≢ commit_object files rest)
+        (λ p. IsSessionNumber p.1
+        × (rest : Members) × IsSession p.1 rest × (view value.now ≡ commit_object (view p.0.now) rest)) }
+{
+    let mut members = value.as_object()?.iter();
+    next_member(&mut members, "ask")?;
+    let files = next_member(&mut members, "files")?;
+    let session = session_member(&mut members)?;
+    Some((files, session))
+}
+
+/// The instant, the partition and the session of a look-up.
+pub fn look_up_parts(value: &Value) -> Option<(Option<Instant>, &Value, u32)>
+    requires { get (codes "ask") (view value.now) ≡ Some (string (codes "files")) }
+    ensures { MatchOption result
+        ((at : Option ℕ) (partition : Data) (session : ℕ) (rest : Members) → IsMoment at → IsSessionNumber session
+        → IsSession session rest → view value.now ≢ look_up_object at partition rest)
+        (λ p. IsMoment p.0 × IsSessionNumber p.2
+        × (rest : Members) × IsSession p.2 rest × (view value.now ≡ look_up_object p.0 (view p.1.now) rest)) }
+{
+    let mut members = value.as_object()?.iter();
+    next_member(&mut members, "ask")?;
+    let (name, second) = members.next()?;
+    match name.as_str() {
+        "at" => {
+            let at = instant_in(second)?;
+            let partition = next_member(&mut members, "partition")?;
+            Some((Some(at), partition, session_member(&mut members)?))
+        }
+        "partition" => Some((None, second, session_member(&mut members)?)),
+        _ => None,
+    }
+}
+
+// The session, which ends an object.
+fn session_member(members: &mut Iter<'_, String, Value>) -> Option<u32>
+    ensures { MatchOption result
+        ((session : ℕ) → IsSessionNumber session → ¬ IsSession session (members_view members.old))
+        (λ session. IsSession session (members_view members.old) × IsSessionNumber session) }
+{
+    let Some((name, value)) = members.next() else {
+        return Some(1);
+    };
+    if name.as_str() == "session" && members.next().is_none() {
+        session_in(value)
+    } else {
+        None
+    }
+}

@@ -1,0 +1,5 @@
+pub mod EntryLemmas
+pub mod GroupingLemmas
+pub mod PlanLemmas
+pub mod ListingLemmas
+pub mod WrittenLemmas

@@ -1,0 +1,134 @@
+-- From what the table's calls do to what an ask is answered.
+use Rattle.std.proofs.Common.{◌≡◌, ◌≢◌, ◌⊎◌, inl, inr, ℕ, ◌+◌, ◌<◌, ◌^◌, List, [], ◌∷◌, length, Option, Some, None, refl, sym, ◌∙◌, ap, subst, arith}
+use Rattle.std.specs.Prelude.{IfOk, IfSome, Result, Ok, Err}
+use Rattle.mx_ask.specs.declared.ask.Ask.{Ask}
+use Rattle.mx_ask.specs.declared.ask.FileText.{FileText}
+use Rattle.mx_ask.specs.declared.reply.Refusal.{Refusal}
+use Rattle.mx_ask.specs.declared.reply.Reply.{Reply}
+use Rattle.mx_store.specs.Calls.{Counts}
+use Rattle.mx_store.specs.Objects.{Objects, objects_of}
+use Rattle.mx_store.specs.declared.change.Change.{Change}
+use Rattle.mx_store.specs.declared.store.StoreError.{StoreError}
+use Rattle.mx_store.specs.declared.store.StoreError.TheVariants as store
+use Rattle.mx_store.proofs.Longer.{EachSince-now}
+use Rattle.mx_folder.specs.Folder.{IsValidTable}
+use Rattle.mx_lookup.specs.Looking.{AreFiles, IsLookedUp}
+use Rattle.mx_world.specs.declared.error.ChangeError.TheVariants as changes
+use Rattle.mx_world.specs.declared.mirror.Mirror.{Mirror}
+use Rattle.mx_world.specs.State.{Holds, Settles, Stands, Standing}
+use Rattle.mx_writer.specs.declared.committing.CommitError.{CommitError}
+use Rattle.mx_writer.specs.declared.committing.CommitError.TheVariants.{TooMany, DuplicateGroup, InstantsUsedUp, Stopped}
+use Rattle.mx_writer.specs.Commit.{Commits, CountsCommit}
+use Rattle.mx_hub.specs.declared.answered.Answered.{Answered}
+use Rattle.mx_hub.specs.Answers.{AnswersFiles, AnswersSettled, CommitsFiles, CountsRefusal, CountsReply, IsAnswered, IsRefusedFor, IsCounted, IsReplyTo, paths_at, ShowsFiles, WasTable, commit_refusal, look_reply, store_refusal}
+
+-- ---- the store's faults
+
+pub counts_store : (T : Type 0) (before now : ℕ) (error : StoreError) → Counts {T = T} before now (Err error) → CountsReply before now (Reply.Refused (store_refusal error))
+counts_store T before now store.Failed is = is
+counts_store T before now store.NoMemory is = is
+
+pub counts_commit : (before now : ℕ) (why : CommitError) → CountsCommit before now (Err why) → CountsRefusal before now (commit_refusal why)
+counts_commit before now (TooMany what count) is = is
+counts_commit before now (DuplicateGroup partition file) is = is
+counts_commit before now InstantsUsedUp is = is
+counts_commit before now (Stopped changes.StoreFault) is = is
+counts_commit before now (Stopped changes.NoMemory) is = is
+counts_commit before now (Stopped (changes.Changed path)) is = is
+counts_commit before now (Stopped (changes.InDoubt path)) is = is
+
+pub counts_files : (before now : ℕ) (reply : Reply) → AreFiles reply → now ≡ before → CountsReply before now reply
+counts_files before now (Reply.Files at files) are is = is
+counts_files before now (Reply.Committed at files) are is = absurd are
+counts_files before now (Reply.Refused refusal) are is = absurd are
+
+-- ---- what is known where no change is in doubt
+
+module _ (opening journal : Option (List Change)) (m : Mirror) (last applied : ℕ) (doubt : Option Change) (sure : doubt ≡ None) (stands : Stands opening journal m last applied doubt) where
+  held : (first j : List Change) → opening ≡ Some first → journal ≡ Some j → Holds first j m last applied
+  held first j opens told =
+      subst (λ (d : Option Change). Stands (Some first) (Some j) m last applied d) sure
+      (subst (λ (x : Option (List Change)). Stands (Some first) x m last applied doubt) told
+      (subst (λ (x : Option (List Change)). Stands x journal m last applied doubt) opens stands))
+
+  -- a told journal began with a told opening
+  from_opening : (P : List Change → Type 0) → ((first j : List Change) → opening ≡ Some first → journal ≡ Some j → P j) → IfSome journal P
+  from_opening P known = by_cases opening journal refl refl stands
+    where
+      by_cases : (o s : Option (List Change)) → opening ≡ o → journal ≡ s → Stands o s m last applied doubt → IfSome s P
+      by_cases o None opens told is = tt
+      by_cases (Some first) (Some j) opens told is = known first j opens told
+      by_cases None (Some j) opens told is = absurd (cc is)
+
+  pub counted_is : (now : Standing) → now.journal ≡ journal → now.applied ≡ applied → IsCounted opening now
+  counted_is now told count = by_cases opening refl
+    where
+      by_cases : (o : Option (List Change)) → opening ≡ o → IfSome o (λ (first : List Change). IfSome now.journal (λ (j : List Change). length j ≡ length first + now.applied))
+      by_cases None opens = tt
+      by_cases (Some first) opens = by_journal now.journal refl
+        where
+          by_journal : (s : Option (List Change)) → now.journal ≡ s → IfSome s (λ (j : List Change). length j ≡ length first + now.applied)
+          by_journal None none = tt
+          by_journal (Some j) some = (held first j opens (sym told ∙ some)).count ∙ ap (λ (n : ℕ). length first + n) (sym count)
+
+  pub is_table : IfSome journal (λ (j : List Change). WasTable opening → IsValidTable (objects_of j))
+  is_table = from_opening (λ j. WasTable opening → IsValidTable (objects_of j)) (λ first j opens told was.
+      let h = held first j opens told in
+      let valid : IsValidTable (objects_of first) = subst (λ (o : Option (List Change)). WasTable o) opens was in
+      EachSince-now IsValidTable (length first) j (let c = h.count in omega (arith, c)) (h.valid valid))
+
+-- ---- a commit
+
+module _ (files : List FileText) (before after : Standing) where
+  pub ran_short : after ≡ before → CommitsFiles files before after (Err (Stopped changes.NoMemory))
+  ran_short same = inr (record { refused = refl; same = same })
+
+  pub stopped : (why : CommitError) → Commits files before after (Err why) → CommitsFiles files before after (Err why)
+  stopped why commits = inl (record { ended = Err why; commits = commits; reply_is = refl })
+
+  pub committed : (at : ℕ) (paths : List (List ℕ)) → Commits files before after (Ok at) → (before.last + 1 < 10 ^ 17 → paths ≡ paths_at files (before.last + 1)) → CommitsFiles files before after (Ok (Reply.Committed at paths))
+  committed at paths commits made = record {
+    ended = Ok at;
+    commits = commits;
+    reply_is = ap (λ (fs : List (List ℕ)). Reply.Committed at fs)
+        (made (let next = commits.1 in let small = commits.2 in omega (arith, next, small)) ∙ ap (paths_at files) (sym commits.1));
+  }
+
+-- ---- a look-up
+
+shown : (opening : Option (List Change)) (o : Objects) (partition : List ℕ) (asked : Option ℕ) (reply : Reply) (reads_before reads_after : Option (List (List ℕ))) → IsLookedUp o partition asked reply reads_before reads_after → (WasTable opening → IsValidTable o) → WasTable opening → ShowsFiles o partition asked reply
+shown opening o partition asked reply reads_before reads_after is valid was = record { at = is.at; pinned = is.pinned; retained = is.retained (valid was); answer = is.answer (valid was) }
+
+pub shows : (opening journal : Option (List Change)) (partition : List ℕ) (asked : Option ℕ) (reply : Reply) (reads_before reads_after : Option (List (List ℕ))) → IfSome journal (λ (j : List Change). WasTable opening → IsValidTable (objects_of j))
+    → IfSome journal (λ (j : List Change). IsLookedUp (objects_of j) partition asked reply reads_before reads_after) → IfSome journal (λ (j : List Change). WasTable opening → ShowsFiles (objects_of j) partition asked reply)
+shows opening None partition asked reply reads_before reads_after valid is = tt
+shows opening (Some j) partition asked reply reads_before reads_after valid is = shown opening (objects_of j) partition asked reply reads_before reads_after is valid
+
+-- ---- an ask
+
+pub settled_answer : (opening : Option (List Change)) (ask : Ask) (before during after : Standing) (a : Answered) → Settles before during (Ok tt) → IsCounted opening during → a.begun ≡ during.applied → a.seq ≡ after.applied
+    → IsReplyTo opening ask during after a.reply → IsAnswered opening ask before after a
+settled_answer opening ask before during after a settles counted begun seq reply = inl (record { during = during; settles = settles; counted = counted; begun = begun; seq = seq; reply = reply })
+
+pub held_up : (opening : Option (List Change)) (ask : Ask) (before after : Standing) (a : Answered) (error : StoreError) (refusal : Refusal) → after ≡ before → refusal ≡ store_refusal error → IsRefusedFor refusal after after a → IsAnswered opening ask before after a
+held_up opening ask before after a error refusal same is refused = inr (
+  error,
+  record {
+    same = same;
+    begun = refused.begun ∙ ap (λ (s : Standing). s.applied) same;
+    seq = refused.seq ∙ ap (λ (s : Standing). s.applied) same;
+    reply = refused.reply ∙ ap (λ (r : Refusal). Reply.Refused r) is;
+  },
+)
+
+-- ---- a look-up that was made
+
+pub looked : (opening : Option (List Change)) (partition : List ℕ) (asked : Option ℕ) (before after : Standing) (reply : Reply) (reads_before reads_after : Option (List (List ℕ))) → after ≡ before
+    → IfSome before.journal (λ (j : List Change). WasTable opening → IsValidTable (objects_of j)) → IfSome before.journal (λ (j : List Change). IsLookedUp (objects_of j) partition asked reply reads_before reads_after)
+    → AnswersFiles opening partition asked before after reply
+looked opening partition asked before after reply reads_before reads_after same valid is = record {
+  same = same;
+  found = Ok reply;
+  shows = shows opening before.journal partition asked reply reads_before reads_after valid is;
+  reply_is = refl;
+}

@@ -1,5 +1,0 @@
-pub mod MirrorLemmas
-pub mod ListedLemmas
-pub mod StateLemmas
-pub mod DrawnLemmas
-pub mod TurnLemmas

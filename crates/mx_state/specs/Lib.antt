@@ -1,7 +1,0 @@
-pub mod Table
-pub mod Commits
-pub mod State
-pub mod Making
-pub mod Plan
-pub mod Look
-pub mod Answers

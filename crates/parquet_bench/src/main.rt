@@ -1,0 +1,85 @@
+//! Reads the file of rows on standard input so many times, and writes it once more each time, for `bench/parquet`.
+//!
+//! The words are the number of rounds and `copy`, where the bytes are copied and no more, `read`, or `both`, where each
+//! file is written again. It prints the rounds and the bytes that were made.
+#![tactic(auto)]
+
+use mx_parquet::{Contents, read_rows, rows_fit, size_rows, write_rows};
+use std::alloc::Global;
+use std::io::Read;
+use std::{env, io};
+
+const MOST_BYTES: usize = 1 << 24;
+
+/// The most that a file has, as `write_rows` asks for it.
+const MOST_ROWS: usize = 16_384;
+
+const MOST_FILE_BYTES: u64 = 4_194_304;
+
+/// What is done with the file in each round.
+#[derive(Clone, Copy, PartialEq, Eq)]
+enum Work {
+    Copy,
+    Read,
+    Both,
+}
+
+fn main(rt: HostRuntime) -> io::Result<()> {
+    let alloc = rt.alloc();
+    let mut words = env::args(&rt)?.skip(1);
+    let rounds = match words.next() {
+        Some(word) => word.as_str().parse::<u32>().unwrap_or(1),
+        None => 1,
+    };
+    let work = match words.next() {
+        Some(word) if word.as_str() == "copy" => Work::Copy,
+        Some(word) if word.as_str() == "read" => Work::Read,
+        _ => Work::Both,
+    };
+    let bytes = input(alloc, &mut rt.stdin())?;
+    let mut made = 0u64;
+    for _ in 0..rounds {
+        made = made.saturating_add(round(alloc, bytes.as_slice(), work)?);
+    }
+    println!(rt; "rounds {rounds} made {made}")
+}
+
+// All of the input, up to 16 MiB.
+fn input<R: Read>(alloc: Global, reader: &mut R) -> io::Result<Vec<u8>> {
+    let mut bytes = Vec::new(alloc);
+    let mut buffer = [0u8; 4096];
+    for _ in 0..MOST_BYTES {
+        let count = reader.read(&mut buffer)?;
+        if count == 0 {
+            break;
+        }
+        bytes.extend_from_slice(&buffer[..count])?;
+    }
+    Ok(bytes)
+}
+
+// How many bytes one round made.
+fn round(alloc: Global, bytes: &[u8], work: Work) -> io::Result<u64> {
+    if work == Work::Copy {
+        return Ok(Vec::from_slice(alloc, bytes)?.len() as u64);
+    }
+    let Ok(contents) = read_rows(alloc, bytes) else {
+        return Err(io::Error::from(io::ErrorKind::InvalidData));
+    };
+    if work == Work::Read {
+        return Ok(0);
+    }
+    written(alloc, &contents)
+}
+
+// How long the file is that is written of what was read.
+fn written(alloc: Global, contents: &Contents) -> io::Result<u64> {
+    let Contents { schema, rows } = contents;
+    if rows.len() > MOST_ROWS
+        || !rows_fit(schema, rows)
+        || size_rows(schema, rows) > MOST_FILE_BYTES
+    {
+        return Err(io::Error::from(io::ErrorKind::InvalidData));
+    }
+    Ok(write_rows(alloc, schema, rows)?.len() as u64)
+}

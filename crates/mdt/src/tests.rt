@@ -177,15 +177,22 @@ fn a_look_up_shows_the_files_of_the_instant_that_it_asks_for(rt: HostRuntime) ->
     Ok(())
 }
 
-// A commit of two files in two partitions, a look-up of each, and a commit of no files.
+// The partitions of a new table, a commit of two files in two partitions, a look-up of each and of the partitions, and a
+// commit of no files.
 static LINES_OF_TWO: &[u8] =
-    b"{\"ask\":\"commit\",\"files\":[{\"file\":\"22222222-2222-4222-8222-222222222222\",\"partition\":\"2024-01-02\",\"text\":\"x\"},{\"file\":\"11111111-1111-4111-8111-111111111111\",\"partition\":\"2024-01-01\",\"text\":\"hello\"}]}\n{\"ask\":\"files\",\"partition\":\"2024-01-01\"}\n{\"ask\":\"files\",\"partition\":\"2024-01-02\"}\n{\"ask\":\"commit\",\"files\":[]}\n";
+    b"{\"ask\":\"partitions\"}\n{\"ask\":\"commit\",\"files\":[{\"file\":\"22222222-2222-4222-8222-222222222222\",\"partition\":\"2024-01-02\",\"text\":\"x\"},{\"file\":\"11111111-1111-4111-8111-111111111111\",\"partition\":\"2024-01-01\",\"text\":\"hello\"}]}\n{\"ask\":\"files\",\"partition\":\"2024-01-01\"}\n{\"ask\":\"files\",\"partition\":\"2024-01-02\"}\n{\"ask\":\"partitions\",\"session\":2}\n{\"ask\":\"partitions\",\"at\":\"00000000000000000\"}\n{\"ask\":\"commit\",\"files\":[]}\n";
 
 const COMMITTED_TWO: &str =
     "{\"files\":[\"2024-01-02/22222222-2222-4222-8222-222222222222_0-0-0_20250101000000000.parquet\",\"2024-01-01/11111111-1111-4111-8111-111111111111_0-0-0_20250101000000000.parquet\"],\"instant\":\"20250101000000000\",\"ok\":\"commit\",\"seq\":";
 
 const FOUND_OTHER: &str =
     "{\"at\":\"20250101000000000\",\"files\":[{\"name\":\"22222222-2222-4222-8222-222222222222_0-0-0_20250101000000000.parquet\",\"size\":1}],\"ok\":\"files\",\"seq\":";
+
+const NO_PARTITIONS: &str =
+    "{\"at\":\"00000000000000000\",\"ok\":\"partitions\",\"partitions\":[],\"seq\":";
+
+const TWO_PARTITIONS: &str =
+    "{\"at\":\"20250101000000000\",\"ok\":\"partitions\",\"partitions\":[\"2024-01-01\",\"2024-01-02\"],\"seq\":";
 
 const COMMITTED_NONE: &str =
     "{\"files\":[],\"instant\":\"20250101000000001\",\"ok\":\"commit\",\"seq\":";
@@ -197,9 +204,12 @@ fn a_commit_of_two_files_is_eight_changes_and_one_of_none_five(
     let alloc = rt.alloc();
     let (code, written) = served(alloc, new_table(alloc)?, LINES_OF_TWO)?;
     let parts = [
+        (NO_PARTITIONS, 0),
         (COMMITTED_TWO, 8),
         (FOUND, 8),
         (FOUND_OTHER, 8),
+        (TWO_PARTITIONS, 8),
+        (NO_PARTITIONS, 8),
         (COMMITTED_NONE, 13),
     ];
     assert!(rt; code == 0);
@@ -312,7 +322,7 @@ fn a_store_that_fails_at_the_opening_ends_the_run_before_a_line(
 fn a_change_that_failed_is_settled_before_the_next_ask(rt: HostRuntime) -> Result<(), Fail> {
     let alloc = rt.alloc();
     for change in 0..6 {
-        let call = change + 5;
+        let call = change + 6;
         let undone = [(NOTHING, 0), (FAULT, change), (NOTHING, change)];
         let done = [(NOTHING, 0), (FAULT, change), (NOTHING, change + 1)];
         assert!(rt;
@@ -334,24 +344,28 @@ fn a_completion_that_failed_shows_the_file_exactly_where_it_was_applied(
     let alloc = rt.alloc();
     let undone = [(NOTHING, 0), (FAULT, 6), (NOTHING, 6)];
     let done = [(NOTHING, 0), (FAULT, 6), (FOUND, 7)];
-    assert!(rt; fails_so(alloc, 11, false, 0, &undone)?);
-    assert!(rt; fails_so(alloc, 11, true, 0, &done)?);
+    assert!(rt; fails_so(alloc, 12, false, 0, &undone)?);
+    assert!(rt; fails_so(alloc, 12, true, 0, &done)?);
     Ok(())
 }
 
 #[test]
 fn a_read_that_failed_is_told_and_the_run_goes_on(rt: HostRuntime) -> Result<(), Fail> {
     let alloc = rt.alloc();
+    let first = [(FAULT, 0), (COMMITTED, 7), (FOUND, 7)];
     let told = [(NOTHING, 0), (COMMITTED, 7), (FAULT, 7)];
     let all = [(NOTHING, 0), (COMMITTED, 7), (FOUND, 7)];
-    assert!(rt; fails_so(alloc, 12, false, 0, &told)?);
-    assert!(rt; fails_so(alloc, 13, false, 0, &all)?);
+    // The first look-up reads the base, the second one the base and a log.
+    assert!(rt; fails_so(alloc, 5, false, 0, &first)?);
+    assert!(rt; fails_so(alloc, 13, false, 0, &told)?);
+    assert!(rt; fails_so(alloc, 14, false, 0, &told)?);
+    assert!(rt; fails_so(alloc, 15, false, 0, &all)?);
     Ok(())
 }
 
 // Whether a look-up in a run behind a commit that stopped at this change is answered so.
 fn reopens_so(alloc: Global, change: u64, part: &str, seq: u64) -> Result<bool, Fail> {
-    let store = failing_table(alloc, change.saturating_add(5), false)?;
+    let store = failing_table(alloc, change.saturating_add(6), false)?;
     let stopped = run(alloc, store, &["serve", "work"], FIRST_LINES)?;
     let (code, written) = served(alloc, stopped.store, LOOK_UP)?;
     let wanted = replies(alloc, &[(part, seq)])?;

@@ -1,5 +1,5 @@
 -- Parts of an ask as JSON, and that a line is at most one ask.
-use Rattle.std.proofs.Common.{◌≡◌, ℕ, zero, suc, ◌<◌, ◌+◌, ◌^◌, List, [], ◌∷◌, ◌++◌, length, take, get_or, map, Some, None, All, refl, sym, ap, subst, ◌∙◌, arith}
+use Rattle.std.proofs.Common.{◌≡◌, ℕ, zero, suc, ◌<◌, ◌+◌, List, [], ◌∷◌, ◌++◌, length, take, get_or, map, All, refl, sym, ap, subst, ◌∙◌, arith}
 use Rattle.std.specs.Prelude.{codes}
 use Rattle.std.proofs.lemmas.List.{take_more, map_push}
 use Rattle.std.proofs.lemmas.List.Elements.{All-head, All-tail}
@@ -7,13 +7,12 @@ use Rattle.serde_json.specs.Data.{Data, string, object, Members, no_members, mem
 use Rattle.serde_json.specs.View.{view, items_of, items_view}
 use Rattle.serde_json.specs.declared.value.Value.{Value}
 use Rattle.mx_text.specs.Plain.{Spells}
-use Rattle.mx_base.specs.Digits.{instant_text}
-use Rattle.mx_base.specs.Paths.{number_of}
-use Rattle.mx_base.proofs.PathLemmas.{number_of-instant_text}
 use Rattle.mx_ask.specs.declared.ask.Ask.{Ask}
 use Rattle.mx_ask.specs.declared.ask.AskKind.{AskKind}
 use Rattle.mx_ask.specs.declared.ask.FileText.{FileText}
-use Rattle.mx_ask.specs.Asks.{file_data, kind_data, IsFileText, IsSession, IsNamedKind, IsNamed, IsAskData, IsAsk}
+use Rattle.mx_ask.specs.declared.ask.Question.{Question}
+use Rattle.mx_ask.specs.Asks.{file_data, with_at, kind_data, IsFileText, IsSession, IsNamedKind, IsNamed, IsAskData, IsAsk}
+use Rattle.mx_ask.proofs.ObjectLemmas.{IsSession-without_at, with_at-injective}
 
 pub file_data-id : (file : FileText) (a b d : Data) → object (member (codes "file") a (member (codes "partition") b (member (codes "text") d no_members))) ≡ file_data file → a ≡ string file.file
 file_data-id file a b d e = cc
@@ -53,31 +52,25 @@ file_at (v ∷ vs) (f ∷ fs) (suc i) d e named within =
     let tail : items_view vs ≡ items_of (map file_data fs) = cc in
     file_at vs fs i d tail (All-tail IsFileText f fs named) (omega (arith, within))
 
-instant_text-injective : (a b : ℕ) → a < 10 ^ 17 → b < 10 ^ 17 → instant_text a ≡ instant_text b → a ≡ b
-instant_text-injective a b small_a small_b e = sym (number_of-instant_text a small_a) ∙ ap number_of e ∙ number_of-instant_text b small_b
-
-kind_data-kind : (a b : AskKind) (xs ys : Members) → IsNamedKind a → IsNamedKind b → kind_data a xs ≡ kind_data b ys → a ≡ b
-kind_data-kind (AskKind.Commit a) (AskKind.Commit b) xs ys is_a is_b e =
+-- a JSON value asks for one thing, and the rest behind it is one
+kind_data-injective : (a b : AskKind) (session other : ℕ) (xs ys : Members) → IsNamedKind a → IsNamedKind b → IsSession session xs → IsSession other ys → kind_data a xs ≡ kind_data b ys → (a ≡ b) × (xs ≡ ys)
+kind_data-injective (AskKind.Commit a) (AskKind.Commit b) session other xs ys is_a is_b is_xs is_ys e =
     let files : items_of (map file_data a) ≡ items_of (map file_data b) = cc in
-    ap AskKind.Commit (files-injective a b files)
-kind_data-kind (AskKind.Commit a) (AskKind.Files b at) xs ys is_a is_b e = cc
-kind_data-kind (AskKind.Files a at) (AskKind.Commit b) xs ys is_a is_b e = cc
-kind_data-kind (AskKind.Files a None) (AskKind.Files b None) xs ys is_a is_b e = cc
-kind_data-kind (AskKind.Files a None) (AskKind.Files b (Some at)) xs ys is_a is_b e = cc
-kind_data-kind (AskKind.Files a (Some at)) (AskKind.Files b None) xs ys is_a is_b e = cc
-kind_data-kind (AskKind.Files a (Some m)) (AskKind.Files b (Some n)) xs ys is_a is_b e =
-    let texts : instant_text m ≡ instant_text n = cc in
-    let instants : m ≡ n = instant_text-injective m n is_a.1 is_b.1 texts in
-    cc
-
-kind_data-rest : (a b : AskKind) (xs ys : Members) → kind_data a xs ≡ kind_data b ys → xs ≡ ys
-kind_data-rest (AskKind.Commit a) (AskKind.Commit b) xs ys e = cc
-kind_data-rest (AskKind.Commit a) (AskKind.Files b at) xs ys e = cc
-kind_data-rest (AskKind.Files a at) (AskKind.Commit b) xs ys e = cc
-kind_data-rest (AskKind.Files a None) (AskKind.Files b None) xs ys e = cc
-kind_data-rest (AskKind.Files a None) (AskKind.Files b (Some at)) xs ys e = cc
-kind_data-rest (AskKind.Files a (Some at)) (AskKind.Files b None) xs ys e = cc
-kind_data-rest (AskKind.Files a (Some m)) (AskKind.Files b (Some n)) xs ys e = cc
+    (ap AskKind.Commit (files-injective a b files), cc)
+kind_data-injective (AskKind.Commit a) (AskKind.LookUp (Question.Files q) n) session other xs ys is_a is_b is_xs is_ys e = cc
+kind_data-injective (AskKind.Commit a) (AskKind.LookUp Question.Partitions n) session other xs ys is_a is_b is_xs is_ys e = cc
+kind_data-injective (AskKind.LookUp (Question.Files p) m) (AskKind.Commit b) session other xs ys is_a is_b is_xs is_ys e = cc
+kind_data-injective (AskKind.LookUp Question.Partitions m) (AskKind.Commit b) session other xs ys is_a is_b is_xs is_ys e = cc
+kind_data-injective (AskKind.LookUp (Question.Files p) m) (AskKind.LookUp Question.Partitions n) session other xs ys is_a is_b is_xs is_ys e = cc
+kind_data-injective (AskKind.LookUp Question.Partitions m) (AskKind.LookUp (Question.Files q) n) session other xs ys is_a is_b is_xs is_ys e = cc
+kind_data-injective (AskKind.LookUp (Question.Files p) m) (AskKind.LookUp (Question.Files q) n) session other xs ys is_a is_b is_xs is_ys e =
+    let behind : with_at m (member (codes "partition") (string p) xs) ≡ with_at n (member (codes "partition") (string q) ys) = cc in
+    let same = with_at-injective m n (member (codes "partition") (string p) xs) (member (codes "partition") (string q) ys) is_a.1 is_b.1 (λ v zs f. cc) (λ v zs f. cc) behind in
+    (cc, cc)
+kind_data-injective (AskKind.LookUp Question.Partitions m) (AskKind.LookUp Question.Partitions n) session other xs ys is_a is_b is_xs is_ys e =
+    let behind : with_at m xs ≡ with_at n ys = cc in
+    let same = with_at-injective m n xs ys is_a.1 is_b.1 (IsSession-without_at session xs is_xs) (IsSession-without_at other ys is_ys) behind in
+    (ap (AskKind.LookUp Question.Partitions) same.0, same.1)
 
 IsSession-unique : (session other : ℕ) (members : Members) → IsSession session members → IsSession other members → session ≡ other
 IsSession-unique session other no_members is also = is ∙ sym also
@@ -86,9 +79,9 @@ IsSession-unique session other (member name value rest) is also = cc
 IsAskData-unique : (a b : Ask) (json : Data) → IsNamed a → IsNamed b → IsAskData a json → IsAskData b json → a ≡ b
 IsAskData-unique a b json named_a named_b (xs, session_a, is_a) (ys, session_b, is_b) =
     let same : kind_data a.kind xs ≡ kind_data b.kind ys = sym is_a ∙ is_b in
-    let rests : xs ≡ ys = kind_data-rest a.kind b.kind xs ys same in
-    let kinds : a.kind ≡ b.kind = kind_data-kind a.kind b.kind xs ys named_a.kind named_b.kind same in
-    let sessions : a.session ≡ b.session = IsSession-unique a.session b.session xs session_a (subst (IsSession b.session) (sym rests) session_b) in
+    let both = kind_data-injective a.kind b.kind a.session b.session xs ys named_a.kind named_b.kind session_a session_b same in
+    let kinds : a.kind ≡ b.kind = both.0 in
+    let sessions : a.session ≡ b.session = IsSession-unique a.session b.session xs session_a (subst (IsSession b.session) (sym both.1) session_b) in
     let parts : (a.session, a.kind) ≡ (b.session, b.kind) = cc in
     ap (λ (p : ℕ × AskKind). record { session = p.0; kind = p.1 }) parts
 

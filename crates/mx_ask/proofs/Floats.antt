@@ -26,4 +26,5 @@ refusal_data_no_float (Refusal.Expired floor) seq = refl
 pub reply_data_no_float : (reply : Reply) (seq : ℕ) → has_float (reply_data reply seq) ≡ false
 reply_data_no_float (Reply.Committed at files) seq = ap (λ b. b || false) (texts-no_float files)
 reply_data_no_float (Reply.Files at files) seq = ap (λ b. b || false) (sizes_no_float files)
+reply_data_no_float (Reply.Partitions at partitions) seq = ap (λ b. b || false) (texts-no_float partitions)
 reply_data_no_float (Reply.Refused refusal) seq = refusal_data_no_float refusal seq

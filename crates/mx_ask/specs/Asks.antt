@@ -8,6 +8,7 @@ use Rattle.mx_base.specs.Names.{IsFileId, IsPartition}
 use Rattle.mx_ask.specs.declared.ask.Ask.{Ask}
 use Rattle.mx_ask.specs.declared.ask.AskKind.{AskKind}
 use Rattle.mx_ask.specs.declared.ask.FileText.{FileText}
+use Rattle.mx_ask.specs.declared.ask.Question.{Question}
 
 -- a file that a commit adds
 abbrev pub file_data : FileText → Data
@@ -22,14 +23,19 @@ with_at (Some at) rest = member (codes "at") (string (instant_text at)) rest
 abbrev pub commit_object : Data → Members → Data
 commit_object files rest = object (member (codes "ask") (string (codes "commit")) (member (codes "files") files rest))
 
--- a look at this partition, with the rest behind it
-abbrev pub look_up_object : Option ℕ → Data → Members → Data
-look_up_object at partition rest = object (member (codes "ask") (string (codes "files")) (with_at at (member (codes "partition") partition rest)))
+-- a look at the files of this partition, with the rest behind it
+abbrev pub files_object : Option ℕ → Data → Members → Data
+files_object at partition rest = object (member (codes "ask") (string (codes "files")) (with_at at (member (codes "partition") partition rest)))
+
+-- a look at the partitions, with the rest behind it
+abbrev pub partitions_object : Option ℕ → Members → Data
+partitions_object at rest = object (member (codes "ask") (string (codes "partitions")) (with_at at rest))
 
 -- the JSON value that asks so, names in the order of their bytes, with the rest behind it
 abbrev pub kind_data : AskKind → Members → Data
 kind_data (AskKind.Commit files) rest = commit_object (array (items_of (map file_data files))) rest
-kind_data (AskKind.Files partition at) rest = look_up_object at (string partition) rest
+kind_data (AskKind.LookUp (Question.Files partition) at) rest = files_object at (string partition) rest
+kind_data (AskKind.LookUp Question.Partitions at) rest = partitions_object at rest
 
 -- the members that tell the session: one, or none where it is 1
 abbrev pub IsSession : ℕ → Members → Type 0
@@ -53,10 +59,15 @@ pub record IsFileText (file : FileText) : Type 0 where
   pub id : IsFileId file.file
   pub partition : IsPartition file.partition
 
+-- the partition that a question names is one
+abbrev pub IsNamedQuestion : Question → Type 0
+IsNamedQuestion (Question.Files partition) = IsPartition partition
+IsNamedQuestion Question.Partitions = Unit {0}
+
 -- ids, partitions and instants are such
 abbrev pub IsNamedKind : AskKind → Type 0
 IsNamedKind (AskKind.Commit files) = All IsFileText files
-IsNamedKind (AskKind.Files partition at) = IsPartition partition × IsMoment at
+IsNamedKind (AskKind.LookUp question at) = IsNamedQuestion question × IsMoment at
 
 -- an ask's session and names are such
 pub record IsNamed (ask : Ask) : Type 0 where

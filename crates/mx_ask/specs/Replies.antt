@@ -44,6 +44,8 @@ reply_data (Reply.Committed at files) seq =
     object (member (codes "files") (array (items_of (map string files))) (member (codes "instant") (string (instant_text at)) (member (codes "ok") (string (codes "commit")) (member (codes "seq") (number (unsigned seq)) no_members))))
 reply_data (Reply.Files at files) seq =
     object (member (codes "at") (string (instant_text at)) (member (codes "files") (array (items_of (map size_data files))) (member (codes "ok") (string (codes "files")) (member (codes "seq") (number (unsigned seq)) no_members))))
+reply_data (Reply.Partitions at partitions) seq =
+    object (member (codes "at") (string (instant_text at)) (member (codes "ok") (string (codes "partitions")) (member (codes "partitions") (array (items_of (map string partitions))) (member (codes "seq") (number (unsigned seq)) no_members))))
 reply_data (Reply.Refused refusal) seq = refusal_data refusal seq
 
 -- the line of a reply, without its newline

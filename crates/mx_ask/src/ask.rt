@@ -24,9 +24,18 @@ pub enum AskKind {
     Commit {
         files: Listed<FileText>,
     },
-    /// List the files of a partition, as they are at an instant, or at the newest commit.
-    Files {
-        partition: Partition,
+    /// Answer a question about the table as it is at an instant, or at the newest commit.
+    LookUp {
+        question: Question,
         at: Option<Instant>,
     },
+}
+
+/// What a look-up asks for.
+#[derive(Debug, Drop)]
+pub enum Question {
+    /// The files of a partition.
+    Files { partition: Partition },
+    /// The partitions of the table.
+    Partitions,
 }

@@ -22,7 +22,7 @@ mod reply;
 #[cfg(test)]
 mod tests;
 
-pub use ask::{Ask, AskKind, FileText};
+pub use ask::{Ask, AskKind, FileText, Question};
 pub use printing::print_reply;
 pub use reading::{LineError, ask_of};
 pub use reply::{FileSize, Limit, Refusal, Reply};

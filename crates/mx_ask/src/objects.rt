@@ -1,8 +1,8 @@
 ghost use Rattle.std.specs.Prelude.{◌≡◌, ◌≢◌, ℕ, Option, Some, MatchOption, codes};
-ghost use Rattle.serde_json.specs.Data.{Data, Members, string};
+ghost use Rattle.serde_json.specs.Data.{Data, Members, member, object, string};
 ghost use Rattle.serde_json.specs.Find.{get};
 ghost use Rattle.serde_json.specs.View.{view, members_view};
-ghost use Rattle.mx_ask.specs.Asks.{commit_object, look_up_object, IsSession, IsSessionNumber, IsMoment};
+ghost use Rattle.mx_ask.specs.Asks.{commit_object, files_object, partitions_object, IsSession, IsSessionNumber, IsMoment};
 
 use crate::fields::{instant_in, session_in};
 use crate::members::next_member;
@@ -19,24 +19,22 @@ pub fn commit_parts(value: &Value) -> Option<(&Value, u32)>
         (λ p. IsSessionNumber p.1
         × (rest : Members) × IsSession p.1 rest × (view value.now ≡ commit_object (view p.0.now) rest)) }
 {
-    let mut members = value.as_object()?.iter();
-    next_member(&mut members, "ask")?;
+    let mut members = members_behind_ask(value)?;
     let files = next_member(&mut members, "files")?;
     let session = session_member(&mut members)?;
     Some((files, session))
 }
 
-/// The instant, the partition and the session of a look-up.
-pub fn look_up_parts(value: &Value) -> Option<(Option<Instant>, &Value, u32)>
+/// The instant, the partition and the session of a look at the files of a partition.
+pub fn files_parts(value: &Value) -> Option<(Option<Instant>, &Value, u32)>
     requires { get (codes "ask") (view value.now) ≡ Some (string (codes "files")) }
     ensures { MatchOption result
         ((at : Option ℕ) (partition : Data) (session : ℕ) (rest : Members) → IsMoment at → IsSessionNumber session
-        → IsSession session rest → view value.now ≢ look_up_object at partition rest)
+        → IsSession session rest → view value.now ≢ files_object at partition rest)
         (λ p. IsMoment p.0 × IsSessionNumber p.2
-        × (rest : Members) × IsSession p.2 rest × (view value.now ≡ look_up_object p.0 (view p.1.now) rest)) }
+        × (rest : Members) × IsSession p.2 rest × (view value.now ≡ files_object p.0 (view p.1.now) rest)) }
 {
-    let mut members = value.as_object()?.iter();
-    next_member(&mut members, "ask")?;
+    let mut members = members_behind_ask(value)?;
     let (name, second) = members.next()?;
     match name.as_str() {
         "at" => {
@@ -47,6 +45,33 @@ pub fn look_up_parts(value: &Value) -> Option<(Option<Instant>, &Value, u32)>
         "partition" => Some((None, second, session_member(&mut members)?)),
         _ => None,
     }
+}
+
+/// The instant and the session of a look at the partitions.
+pub fn partitions_parts(value: &Value) -> Option<(Option<Instant>, u32)>
+    requires { get (codes "ask") (view value.now) ≡ Some (string (codes "partitions")) }
+    ensures { MatchOption result
+        ((at : Option ℕ) (session : ℕ) (rest : Members) → IsMoment at → IsSessionNumber session
+        → IsSession session rest → view value.now ≢ partitions_object at rest)
+        (λ p. IsMoment p.0 × IsSessionNumber p.1
+        × (rest : Members) × IsSession p.1 rest × (view value.now ≡ partitions_object p.0 rest)) }
+{
+    let mut members = members_behind_ask(value)?;
+    match next_member(&mut members, "at") {
+        Some(at) => Some((Some(instant_in(at)?), session_member(&mut members)?)),
+        None => Some((None, session_member(&mut members_behind_ask(value)?)?)),
+    }
+}
+
+// The members behind `ask`, which has to be the first.
+fn members_behind_ask(value: &Value) -> Option<Iter<'_, String, Value>>
+    ensures { MatchOption result
+        ((kind : Data) (rest : Members) → view value.now ≢ object (member (codes "ask") kind rest))
+        (λ members. (kind : Data) × (view value.now ≡ object (member (codes "ask") kind (members_view members)))) }
+{
+    let mut members = value.as_object()?.iter();
+    next_member(&mut members, "ask")?;
+    Some(members)
 }
 
 // The session, which ends an object.

@@ -32,6 +32,11 @@ fn reply_value(alloc: Global, reply: &Reply, seq: u64) -> Result<Value, AllocErr
             let at = at.to_text(alloc)?;
             json!(in alloc; {"at": at.as_str(), "files": sizes, "ok": "files", "seq": seq})
         }
+        Reply::Partitions { at, partitions } => {
+            let names = partition_values(alloc, partitions.as_slice())?;
+            let at = at.to_text(alloc)?;
+            json!(in alloc; {"at": at.as_str(), "ok": "partitions", "partitions": names, "seq": seq})
+        }
         Reply::Refused { refusal } => refusal_value(alloc, refusal, seq),
     }
 }
@@ -102,6 +107,16 @@ fn path_values(alloc: Global, paths: &[Path]) -> Result<Vec<Value>, AllocError>
     let mut values = Vec::new(alloc);
     for path in paths {
         values.push(Value::try_from_str(alloc, path.as_str())?)?;
+    }
+    Ok(values)
+}
+
+fn partition_values(alloc: Global, partitions: &[Text]) -> Result<Vec<Value>, AllocError>
+    ensures { IfOk result (λ vs. map view vs.items ≡ map string partitions.now) }
+{
+    let mut values = Vec::new(alloc);
+    for partition in partitions {
+        values.push(Value::try_from_str(alloc, partition.as_str())?)?;
     }
     Ok(values)
 }

@@ -1,6 +1,7 @@
 use super::*;
 use mx_base::{FileId, Instant, Partition, Path};
 use mx_lists::{Listed, Text};
+use std::alloc::Global;
 use std::test::Fail;
 
 #[test]
@@ -75,6 +76,33 @@ fn a_reply_is_one_line_of_json(rt: HostRuntime) -> Result<(), Fail> {
             print_reply(alloc, reply, seq)?.as_str().as_bytes(),
             line.as_bytes()
         );
+    }
+    Ok(())
+}
+
+#[test]
+fn partitions_are_told_in_their_order(rt: HostRuntime) -> Result<(), Fail> {
+    let alloc = rt.alloc();
+    let cases: [(&str, &[&str], u64, &str); 2] = [
+        (
+            "00000000000000000",
+            &[],
+            0,
+            "{\"at\":\"00000000000000000\",\"ok\":\"partitions\",\"partitions\":[],\"seq\":0}",
+        ),
+        (
+            "20250101000000000",
+            &["2024-01-01", "2024-01-02"],
+            8,
+            "{\"at\":\"20250101000000000\",\"ok\":\"partitions\",\"partitions\":[\"2024-01-01\",\"2024-01-02\"],\"seq\":8}",
+        ),
+    ];
+    for (at, names, seq, line) in cases {
+        let reply = Reply::Partitions {
+            at: Instant::parse(at)?,
+            partitions: partitions(alloc, names)?,
+        };
+        assert_eq!(rt; print_reply(alloc, &reply, seq)?.as_str(), line);
     }
     Ok(())
 }
@@ -157,4 +185,12 @@ fn a_look_below_the_floor_is_told_the_floor(rt: HostRuntime) -> Result<(), Fail>
         "{\"floor\":\"20250101000000001\",\"refused\":\"Expired\",\"seq\":22}"
     );
     Ok(())
+}
+
+fn partitions(alloc: Global, names: &[&str]) -> Result<Listed<Text>, Fail> {
+    let mut partitions = Listed::new(alloc);
+    for name in names {
+        partitions.push(Text::from_str(alloc, name)?)?;
+    }
+    Ok(partitions)
 }

@@ -9,8 +9,8 @@ ghost use Rattle.mx_ask.specs.Asks.{file_data, IsFileText, IsNamed, IsAskData, I
 
 use crate::fields::{file_id_in, partition_in};
 use crate::members::{text_in, three_members};
-use crate::objects::{commit_parts, look_up_parts};
-use crate::{Ask, AskKind, FileText};
+use crate::objects::{commit_parts, files_parts, partitions_parts};
+use crate::{Ask, AskKind, FileText, Question};
 use mx_lists::{Listed, Text};
 use mx_text::{TextError, read_line};
 use serde_json::Value;
@@ -57,7 +57,8 @@ fn ask_in(alloc: Global, value: &Value) -> Result<Ask, LineError>
 {
     match value.get("ask").and_then(Value::as_str) {
         Some("commit") => commit_in(alloc, value),
-        Some("files") => look_up_in(alloc, value),
+        Some("files") => partition_files_in(alloc, value),
+        Some("partitions") => partitions_in(value),
         _ => Err(LineError::NotAnAsk),
     }
 }
@@ -81,19 +82,40 @@ fn commit_in(alloc: Global, value: &Value) -> Result<Ask, LineError>
     })
 }
 
-fn look_up_in(alloc: Global, value: &Value) -> Result<Ask, LineError>
+fn partition_files_in(alloc: Global, value: &Value) -> Result<Ask, LineError>
     requires { get (codes "ask") (view value.now) ≡ Some (string (codes "files")) }
     ensures ok { IfOk result (λ ask. IsAskData ask (view value.now) × IsNamed ask) }
     ensures not_an_ask { IsErrOf result LineError.NotAnAsk
         → (ask : Ask) → IsNamed ask → ¬ IsAskData ask (view value.now) }
 {
-    let Some((at, partition, session)) = look_up_parts(value) else {
+    let Some((at, partition, session)) = files_parts(value) else {
         return Err(LineError::NotAnAsk);
     };
     let partition = partition_in(alloc, partition)?;
     Ok(Ask {
         session,
-        kind: AskKind::Files { partition, at },
+        kind: AskKind::LookUp {
+            question: Question::Files { partition },
+            at,
+        },
+    })
+}
+
+fn partitions_in(value: &Value) -> Result<Ask, LineError>
+    requires { get (codes "ask") (view value.now) ≡ Some (string (codes "partitions")) }
+    ensures ok { IfOk result (λ ask. IsAskData ask (view value.now) × IsNamed ask) }
+    ensures not_an_ask { IsErrOf result LineError.NotAnAsk
+        → (ask : Ask) → IsNamed ask → ¬ IsAskData ask (view value.now) }
+{
+    let Some((at, session)) = partitions_parts(value) else {
+        return Err(LineError::NotAnAsk);
+    };
+    Ok(Ask {
+        session,
+        kind: AskKind::LookUp {
+            question: Question::Partitions,
+            at,
+        },
     })
 }
 

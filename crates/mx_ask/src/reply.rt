@@ -50,6 +50,10 @@ pub enum Reply {
         at: Instant,
         files: Listed<FileSize>,
     },
+    Partitions {
+        at: Instant,
+        partitions: Listed<Text>,
+    },
     Refused {
         refusal: Refusal,
     },

@@ -1,10 +1,10 @@
 use super::*;
-use mx_base::Instant;
+use mx_base::Partition;
 use std::alloc::Global;
 use std::test::Fail;
 
 #[test]
-fn an_ask_has_exactly_its_fields_in_any_order_and_spacing(rt: HostRuntime) -> Result<(), Fail> {
+fn a_commit_has_exactly_its_fields_in_any_order_and_spacing(rt: HostRuntime) -> Result<(), Fail> {
     let alloc = rt.alloc();
     let commits: [(&[u8], &[u8]); 5] = [
         (
@@ -43,9 +43,17 @@ fn an_ask_has_exactly_its_fields_in_any_order_and_spacing(rt: HostRuntime) -> Re
                 );
                 assert_eq!(rt; file.text.as_str().as_bytes(), text);
             }
-            AskKind::Files { partition, .. } => assert!(rt; false, "a look at {partition:?}"),
+            AskKind::LookUp { question, .. } => assert!(rt; false, "a look at {question:?}"),
         }
     }
+    Ok(())
+}
+
+#[test]
+fn a_look_at_files_has_exactly_its_fields_in_any_order_and_spacing(
+    rt: HostRuntime,
+) -> Result<(), Fail> {
+    let alloc = rt.alloc();
     let looks: [(&[u8], &[u8]); 4] = [
         (
             b"{\"ask\":\"files\",\"partition\":\"2024-01-01\"}",
@@ -65,11 +73,9 @@ fn an_ask_has_exactly_its_fields_in_any_order_and_spacing(rt: HostRuntime) -> Re
         ),
     ];
     for (line, name) in looks {
-        match ask_of(alloc, line)?.kind {
-            AskKind::Files { partition, .. } => {
-                assert_eq!(rt; partition.as_str().as_bytes(), name);
-            }
-            AskKind::Commit { files } => assert!(rt; false, "a commit of {files:?}"),
+        match look_at_files(alloc, line) {
+            Some((partition, _)) => assert_eq!(rt; partition.as_str().as_bytes(), name),
+            None => assert!(rt; false, "no look at {name:?}"),
         }
     }
     Ok(())
@@ -110,46 +116,125 @@ fn a_commit_has_any_number_of_files_in_their_order(rt: HostRuntime) -> Result<()
                     assert_eq!(rt; file.text.as_str(), *text);
                 }
             }
-            AskKind::Files { partition, .. } => assert!(rt; false, "a look at {partition:?}"),
+            AskKind::LookUp { question, .. } => assert!(rt; false, "a look at {question:?}"),
         }
     }
     Ok(())
 }
 
 #[test]
-fn a_look_up_is_at_an_instant_or_at_the_newest_commit(rt: HostRuntime) -> Result<(), Fail> {
+fn a_look_at_files_is_at_an_instant_or_at_the_newest_commit(rt: HostRuntime) -> Result<(), Fail> {
     let alloc = rt.alloc();
-    let cases: [(&[u8], Option<&str>); 5] = [
+    let cases: [(&[u8], Option<u64>); 5] = [
         (b"{\"ask\":\"files\",\"partition\":\"a\"}", None),
         (
             b"{\"ask\":\"files\",\"at\":\"20250101000000001\",\"partition\":\"a\"}",
-            Some("20250101000000001"),
+            Some(20250101000000001),
         ),
         (
             b" { \"partition\" : \"a\" , \"\\u0061t\" : \"0000000000000000\\u0030\" , \"ask\" : \"files\" } ",
-            Some("00000000000000000"),
+            Some(0),
         ),
         (
             b"{\"session\":2,\"partition\":\"a\",\"at\":\"99999999999999999\",\"ask\":\"files\"}",
-            Some("99999999999999999"),
+            Some(99999999999999999),
         ),
         (
             b"{\"ask\":\"files\",\"at\":null,\"partition\":\"a\",\"at\":\"00000000000000001\"}",
-            Some("00000000000000001"),
+            Some(1),
         ),
     ];
     for (line, expected) in cases {
-        match ask_of(alloc, line)?.kind {
-            AskKind::Files { partition, at } => {
+        match look_at_files(alloc, line) {
+            Some((partition, at)) => {
                 assert_eq!(rt; partition.as_str(), "a");
-                let expected = match expected {
-                    Some(text) => Some(Instant::parse(text)?),
-                    None => None,
-                };
                 assert_eq!(rt; at, expected);
             }
-            AskKind::Commit { files } => assert!(rt; false, "a commit of {files:?}"),
+            None => assert!(rt; false, "no look at {expected:?}"),
         }
+    }
+    Ok(())
+}
+
+#[test]
+fn a_look_at_partitions_may_have_an_instant_and_a_session(rt: HostRuntime) -> Result<(), Fail> {
+    let alloc = rt.alloc();
+    let cases: [(&[u8], Option<u64>, u32); 11] = [
+        (b"{\"ask\":\"partitions\"}", None, 1),
+        (
+            b"{\"ask\":\"partitions\",\"at\":\"20250101000000001\"}",
+            Some(20250101000000001),
+            1,
+        ),
+        (b"{\"ask\":\"partitions\",\"session\":64}", None, 64),
+        (
+            b"{\"ask\":\"partitions\",\"at\":\"00000000000000000\",\"session\":9}",
+            Some(0),
+            9,
+        ),
+        (
+            b"{\"session\":1,\"at\":\"99999999999999999\",\"ask\":\"partitions\"}",
+            Some(99999999999999999),
+            1,
+        ),
+        (
+            b" { \"\\u0061t\" : \"0000000000000000\\u0031\" , \"session\" : 2 , \"ask\" : \"p\\u0061rtitions\" } \r",
+            Some(1),
+            2,
+        ),
+        (b"\t{\"session\" : 3,\"ask\":\"partitions\"}", None, 3),
+        (
+            b"{\"ask\":\"partitions\",\"at\":null,\"at\":\"00000000000000005\"}",
+            Some(5),
+            1,
+        ),
+        (
+            b"{\"at\":\"00000000000000005\",\"ask\":\"partitions\",\"at\":\"00000000000000006\"}",
+            Some(6),
+            1,
+        ),
+        (
+            b"{\"session\":65,\"ask\":\"partitions\",\"session\":4}",
+            None,
+            4,
+        ),
+        (b"{\"ask\":\"files\",\"ask\":\"partitions\"}", None, 1),
+    ];
+    for (line, at, session) in cases {
+        assert_eq!(rt; look_at_partitions(alloc, line), Some((at, session)));
+    }
+    Ok(())
+}
+
+#[test]
+fn a_look_at_partitions_has_no_other_field(rt: HostRuntime) -> Result<(), Fail> {
+    let alloc = rt.alloc();
+    let lines: [&[u8]; 18] = [
+        b"\"partitions\"",
+        b"{\"partitions\":[]}",
+        b"{\"asks\":\"partitions\"}",
+        b"{\"ask\":\"Partitions\"}",
+        b"{\"ask\":\"partition\"}",
+        b"{\"ask\":[\"partitions\"]}",
+        b"{\"ask\":\"partitions\",\"a\":\"\"}",
+        b"{\"ask\":\"partitions\",\"files\":[]}",
+        b"{\"ask\":\"partitions\",\"partition\":\"2024-01-01\"}",
+        b"{\"ask\":\"partitions\",\"partitions\":[]}",
+        b"{\"ask\":\"partitions\",\"at\":\"20250101000000000\",\"partition\":\"2024-01-01\"}",
+        b"{\"ask\":\"partitions\",\"session\":1,\"sessions\":1}",
+        b"{\"ask\":\"partitions\",\"session\":65}",
+        b"{\"ask\":\"partitions\",\"session\":null}",
+        b"{\"ask\":\"partitions\",\"at\":null}",
+        b"{\"ask\":\"partitions\",\"at\":20250101000000000}",
+        b"{\"ask\":\"partitions\",\"at\":\"2025010100000000\",\"session\":1}",
+        b"{\"ask\":\"partitions\",\"at\":\"20250101000000000\",\"at\":null}",
+    ];
+    for (at, line) in lines.iter().enumerate() {
+        assert_eq!(rt;
+            refusal(alloc, line),
+            Some(LineError::NotAnAsk),
+            "line {at}"
+        );
     }
     Ok(())
 }
@@ -238,6 +323,12 @@ fn any_other_line_is_no_ask(rt: HostRuntime) -> Result<(), Fail> {
             "line {at}"
         );
     }
+    Ok(())
+}
+
+#[test]
+fn a_file_with_other_fields_is_no_file_of_a_commit(rt: HostRuntime) -> Result<(), Fail> {
+    let alloc = rt.alloc();
     let files: [&str; 12] = [
         "",
         "\"file\":\"11111111-1111-4111-8111-111111111111\",\"partition\":\"2024-01-01\"",
@@ -344,4 +435,27 @@ fn a_line_of_more_than_4_194_304_bytes_is_no_ask(rt: HostRuntime) -> Result<(), 
 
 fn refusal(alloc: Global, line: &[u8]) -> Option<LineError> {
     ask_of(alloc, line).err()
+}
+
+// The partition and the instant of a look at files.
+fn look_at_files(alloc: Global, line: &[u8]) -> Option<(Partition, Option<u64>)> {
+    let AskKind::LookUp { question, at } = ask_of(alloc, line).ok()?.kind else {
+        return None;
+    };
+    match question {
+        Question::Files { partition } => Some((partition, at.map(|at| at.number()))),
+        Question::Partitions => None,
+    }
+}
+
+// The instant and the session of a look at the partitions.
+fn look_at_partitions(alloc: Global, line: &[u8]) -> Option<(Option<u64>, u32)> {
+    let Ask { session, kind } = ask_of(alloc, line).ok()?;
+    let AskKind::LookUp { question, at } = kind else {
+        return None;
+    };
+    match question {
+        Question::Partitions => Some((at.map(|at| at.number()), session)),
+        Question::Files { .. } => None,
+    }
 }

@@ -1,3 +1,4 @@
+pub mod AddedLemmas
 pub mod EntryLemmas
 pub mod GroupingLemmas
 pub mod PlanLemmas

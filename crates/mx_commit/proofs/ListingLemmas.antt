@@ -1,6 +1,6 @@
 -- What the log of a commit adds to a map of files, its object lists too.
-use Rattle.std.proofs.Common.{◌≡◌, ◌≢◌, ◌⊎◌, inl, inr, ⊎_elim, arith, ℕ, suc, Bool, true, false, ◌&&◌, List, [], ◌∷◌, ◌++◌, refl, sym, ◌∙◌, ap, subst}
-use Rattle.std.specs.Prelude.{All, Contains, fold, map, length, codes}
+use Rattle.std.proofs.Common.{◌≡◌, ◌≢◌, ◌⊎◌, inl, inr, ⊎_elim, arith, ℕ, suc, Bool, true, ◌&&◌, List, [], ◌∷◌, ◌++◌, refl, sym, ◌∙◌, ap, subst}
+use Rattle.std.specs.Prelude.{All, Contains, fold, map, codes}
 use Rattle.std.specs.List.{flat_map, AllByRecursion}
 use Rattle.std.specs.List.Sorted.{IsStrictlySortedBy}
 use Rattle.std.specs.Ordering.{nat_cmp, is_eq}
@@ -15,18 +15,18 @@ use Rattle.mx_base.specs.Digits.{instant_text}
 use Rattle.mx_base.specs.Paths.{data_file_name}
 use Rattle.mx_meta.specs.CommitText.{stat_below}
 use Rattle.mx_meta.specs.Rising.{rises_from, is_rising, bytes_below}
-use Rattle.mx_meta.specs.declared.added.AddedFile.{AddedFile}
+use Rattle.mx_base.specs.declared.entry.FileAt.{FileAt}
 use Rattle.mx_meta.specs.declared.commit_meta.CommitMeta.{CommitMeta}
 use Rattle.mx_meta.specs.declared.commit_meta.PartitionStats.{PartitionStats}
 use Rattle.mx_meta.specs.declared.commit_meta.WriteStat.{WriteStat}
 use Rattle.mx_meta.proofs.FieldLemmas.{sorted_from_rising}
 use Rattle.mx_model.specs.Listing.{file_of, files_of}
-use Rattle.mx_model.specs.Maps.{FilesMap, with_file}
+use Rattle.mx_files.specs.Files.{FilesMap, with_file}
 use Rattle.mx_folder.proofs.FoldLemmas.{Among, among, ApartFrom, AreApart}
 use Rattle.mx_folder.proofs.FileLemmas.{IsOtherFile, files_same}
 use Rattle.mx_commit.specs.declared.written.Written.{Written}
-use Rattle.mx_commit.specs.Written.{written_file, AreWritten, IsSameGroup, AreApartFiles, HasEntry, IsMetaOf}
-use Rattle.mx_commit.specs.Changes.{files_added}
+use Rattle.mx_commit.specs.Written.{AreWritten, IsSameGroup, AreApartFiles, HasEntry, IsMetaOf}
+use Rattle.mx_commit.specs.Changes.{file_added, files_added}
 
 -- ---- lists
 
@@ -72,7 +72,7 @@ less_differs a b less same = absurd (cc (ap is_eq less, is_eq-slice_cmp a b, (by
 
 -- ---- the files of the ask
 
-added_from : (file : FileText) (files : List FileText) (at : ℕ) → All (λ (other : FileText). ¬ (IsSameGroup file other)) files → ApartFrom IsOtherFile (record { name = data_file_name file.file at; partition = file.partition; size = length file.text }) (files_added files at)
+added_from : (file : FileText) (files : List FileText) (at : ℕ) → All (λ (other : FileText). ¬ (IsSameGroup file other)) files → ApartFrom IsOtherFile (file_added at file) (files_added files at)
 added_from file [] at all = tt
 added_from file (other ∷ files) at all = (
   λ same. All-head (λ (o : FileText). ¬ (IsSameGroup file o)) other files all (same.0, same_id file.file other.file at same.1),
@@ -85,7 +85,7 @@ added_apart (file ∷ files) at apart = (added_from file files at apart.0, added
 
 -- ---- the files that the object lists
 
-abbrev listed_in : ℕ → PartitionStats → List AddedFile
+abbrev listed_in : ℕ → PartitionStats → List FileAt
 listed_in at p = map (file_of at p.partition) p.stats
 
 rises_alike : (s : WriteStat) (stats : List WriteStat) → rises_from stat_below s stats ≡ rises_from bytes_below s.file_id (map (λ (x : WriteStat). x.file_id) stats)
@@ -96,7 +96,7 @@ rising_alike : (stats : List WriteStat) → is_rising stat_below stats ≡ is_ri
 rising_alike [] = refl
 rising_alike (s ∷ stats) = rises_alike s stats
 
-stat_from : (at : ℕ) (p id : List ℕ) (size : ℕ) (stats : List WriteStat) → AllByRecursion (λ (y : List ℕ). slice_cmp nat_cmp id y ≡ Less) (map (λ (x : WriteStat). x.file_id) stats) → ApartFrom IsOtherFile (record { name = data_file_name id at; partition = p; size = size }) (map (file_of at p) stats)
+stat_from : (at : ℕ) (p id : List ℕ) (size : ℕ) (stats : List WriteStat) → AllByRecursion (λ (y : List ℕ). slice_cmp nat_cmp id y ≡ Less) (map (λ (x : WriteStat). x.file_id) stats) → ApartFrom IsOtherFile (record { partition = p; file = id; at = at; size = size }) (map (file_of at p) stats)
 stat_from at p id size [] all = tt
 stat_from at p id size (s ∷ stats) all = (λ same. less_differs id s.file_id all.0 (same_id id s.file_id at same.1), stat_from at p id size stats all.1)
 
@@ -105,16 +105,16 @@ unfolding IsStrictlySortedBy
 stats_apart at p [] sorted = tt
 stats_apart at p (s ∷ stats) sorted = (stat_from at p s.file_id s.file_size_in_bytes stats sorted.0, stats_apart at p stats sorted.1)
 
-partition_in : (at : ℕ) (p : List ℕ) (stats : List WriteStat) (z : AddedFile) → Among z (map (file_of at p) stats) → z.partition ≡ p
+partition_in : (at : ℕ) (p : List ℕ) (stats : List WriteStat) (z : FileAt) → Among z (map (file_of at p) stats) → z.partition ≡ p
 partition_in at p [] z never = absurd never
-partition_in at p (s ∷ stats) z (inl same) = ap (λ (f : AddedFile). f.partition) same
+partition_in at p (s ∷ stats) z (inl same) = ap (λ (f : FileAt). f.partition) same
 partition_in at p (s ∷ stats) z (inr more) = partition_in at p stats z more
 
-in_other : (at : ℕ) (x : AddedFile) (p : List ℕ) (stats : List WriteStat) → x.partition ≢ p → ApartFrom IsOtherFile x (map (file_of at p) stats)
+in_other : (at : ℕ) (x : FileAt) (p : List ℕ) (stats : List WriteStat) → x.partition ≢ p → ApartFrom IsOtherFile x (map (file_of at p) stats)
 in_other at x p [] other = tt
 in_other at x p (s ∷ stats) other = (λ same. other same.0, in_other at x p stats other)
 
-in_others : (at : ℕ) (x : AddedFile) (ps : List PartitionStats) → AllByRecursion (λ (y : List ℕ). slice_cmp nat_cmp x.partition y ≡ Less) (map (λ (p : PartitionStats). p.partition) ps) → ApartFrom IsOtherFile x (flat_map (listed_in at) ps)
+in_others : (at : ℕ) (x : FileAt) (ps : List PartitionStats) → AllByRecursion (λ (y : List ℕ). slice_cmp nat_cmp x.partition y ≡ Less) (map (λ (p : PartitionStats). p.partition) ps) → ApartFrom IsOtherFile x (flat_map (listed_in at) ps)
 in_others at x [] all = tt
 in_others at x (p ∷ ps) all = from_append IsOtherFile x (listed_in at p) (flat_map (listed_in at) ps) (in_other at x p.partition p.stats (less_differs x.partition p.partition all.0)) (in_others at x ps all.1)
 
@@ -130,7 +130,7 @@ listed_apart at (p ∷ ps) rising ordered =
 
 -- ---- they are the same files
 
-abbrev listed_file : ℕ → Written → AddedFile
+abbrev listed_file : ℕ → Written → FileAt
 listed_file at w = file_of at w.partition w.stat
 
 -- the file of an entry is listed
@@ -139,7 +139,7 @@ stat_listed at p s [] never = absurd never
 stat_listed at p s (x ∷ stats) (inl same) = inl (ap (file_of at p) same)
 stat_listed at p s (x ∷ stats) (inr more) = inr (stat_listed at p s stats more)
 
-part_listed : (at : ℕ) (p : PartitionStats) (z : AddedFile) (ps : List PartitionStats) → Among p ps → Among z (listed_in at p) → Among z (flat_map (listed_in at) ps)
+part_listed : (at : ℕ) (p : PartitionStats) (z : FileAt) (ps : List PartitionStats) → Among p ps → Among z (listed_in at p) → Among z (flat_map (listed_in at) ps)
 part_listed at p z [] never is = absurd never
 part_listed at p z (q ∷ ps) (inl same) is = among_left z (listed_in at q) (flat_map (listed_in at) ps) (subst (λ (r : PartitionStats). Among z (listed_in at r)) same is)
 part_listed at p z (q ∷ ps) (inr more) is = among_right z (listed_in at q) (flat_map (listed_in at) ps) (part_listed at p z ps more is)
@@ -151,19 +151,19 @@ entry_listed at meta w has =
     (subst (λ (name : List ℕ). Among (file_of at name w.stat) (listed_in at p)) has.2 (stat_listed at p.partition w.stat p.stats (among p.stats w.stat has.3)))
 
 -- a file that is listed has an entry
-record Entry (at : ℕ) (ps : List PartitionStats) (z : AddedFile) : Type 0 where
+record Entry (at : ℕ) (ps : List PartitionStats) (z : FileAt) : Type 0 where
   pub p : PartitionStats
   pub s : WriteStat
   pub part : Among p ps
   pub stat : Among s p.stats
   pub is : z ≡ file_of at p.partition s
 
-stat_of : (at : ℕ) (p : List ℕ) (z : AddedFile) (stats : List WriteStat) → Among z (map (file_of at p) stats) → (s : WriteStat) × Among s stats × (z ≡ file_of at p s)
+stat_of : (at : ℕ) (p : List ℕ) (z : FileAt) (stats : List WriteStat) → Among z (map (file_of at p) stats) → (s : WriteStat) × Among s stats × (z ≡ file_of at p s)
 stat_of at p z [] never = absurd never
 stat_of at p z (s ∷ stats) (inl same) = (s, inl refl, same)
 stat_of at p z (s ∷ stats) (inr more) = let there = stat_of at p z stats more in (there.0, inr there.1, there.2)
 
-entry_of : (at : ℕ) (z : AddedFile) (ps : List PartitionStats) → Among z (flat_map (listed_in at) ps) → Entry at ps z
+entry_of : (at : ℕ) (z : FileAt) (ps : List PartitionStats) → Among z (flat_map (listed_in at) ps) → Entry at ps z
 entry_of at z [] never = absurd never
 entry_of at z (p ∷ ps) is = ⊎_elim
     (λ (here : Among z (listed_in at p)). let found = stat_of at p.partition z p.stats here in record { p = p; s = found.0; part = inl refl; stat = found.1; is = found.2 })
@@ -171,7 +171,7 @@ entry_of at z (p ∷ ps) is = ⊎_elim
     (cases_append z (listed_in at p) (flat_map (listed_in at) ps) is)
 
 -- each file of the ask has its entry, and each entry is of a file
-entry_at : (files : List FileText) (at : ℕ) (written : List Written) (z : AddedFile) → AreWritten files at written → Among z (files_added files at) → (w : Written) × Among w written × (z ≡ listed_file at w)
+entry_at : (files : List FileText) (at : ℕ) (written : List Written) (z : FileAt) → AreWritten files at written → Among z (files_added files at) → (w : Written) × Among w written × (z ≡ listed_file at w)
 entry_at [] at written z are never = absurd never
 entry_at (file ∷ files) at [] z are is = absurd are
 entry_at (file ∷ files) at (w ∷ ws) z are (inl same) = (w, inl refl, same ∙ ap (listed_file at) (sym are.0.1))
@@ -184,18 +184,18 @@ file_at (file ∷ files) at (v ∷ ws) w are (inl same) = inl (ap (listed_file a
 file_at (file ∷ files) at (v ∷ ws) w are (inr more) = inr (file_at files at ws w are.1 more)
 
 module _ (files : List FileText) (at : ℕ) (written : List Written) (meta : CommitMeta) (apart : AreApartFiles files) (are : AreWritten files at written) (is : IsMetaOf written meta) where
-  into : (z : AddedFile) → Among z (files_added files at) → Among z (flat_map (listed_in at) meta.partitions)
+  into : (z : FileAt) → Among z (files_added files at) → Among z (flat_map (listed_in at) meta.partitions)
   into z among_files =
       let found = entry_at files at written z are among_files in
-      subst (λ (f : AddedFile). Among f (flat_map (listed_in at) meta.partitions)) (sym found.2)
+      subst (λ (f : FileAt). Among f (flat_map (listed_in at) meta.partitions)) (sym found.2)
       (entry_listed at meta found.0 (All-contains (HasEntry meta) written found.0 is.all (contains found.0 written found.1)))
 
-  back : (z : AddedFile) → Among z (flat_map (listed_in at) meta.partitions) → Among z (files_added files at)
+  back : (z : FileAt) → Among z (flat_map (listed_in at) meta.partitions) → Among z (files_added files at)
   back z listed =
       let found = entry_of at z meta.partitions listed in
       let w : Written = record { partition = found.p.partition; stat = found.s } in
       let has : HasEntry meta w = (found.p, contains found.p meta.partitions found.part, refl, contains found.s found.p.stats found.stat) in
-      subst (λ (f : AddedFile). Among f (files_added files at)) (sym found.is) (file_at files at written w are (among written w (is.only w has)))
+      subst (λ (f : FileAt). Among f (files_added files at)) (sym found.is) (file_at files at written w are (among written w (is.only w has)))
 
   pub logged_listed : (m : FilesMap) → fold with_file m (files_added files at) ≡ fold with_file m (files_of (record { at = at; meta = meta }))
   logged_listed m = files_same (files_added files at) (flat_map (listed_in at) meta.partitions) (added_apart files at apart) (listed_apart at meta.partitions is.rising is.ordered) into back m

@@ -1,6 +1,6 @@
 -- What a commit writes reads back.
-use Rattle.std.proofs.Common.{◌≡◌, ◌∙◌, sym, ap, subst, ℕ, ◌<◌, ◌^◌, Bool, true, false, List, [], ◌∷◌, ◌++◌, ◌+◌, take, get_or, length, ap₂, append_assoc, Option, Some, None, refl}
-use Rattle.std.specs.Prelude.{All, Contains, nat_lt, ◌&&◌, option_map, option_and_then}
+use Rattle.std.proofs.Common.{◌≡◌, ◌∙◌, sym, ap, ℕ, ◌<◌, ◌^◌, true, false, List, [], ◌∷◌, ◌++◌, ◌+◌, take, get_or, length, ap₂, append_assoc, Option, Some, None, refl}
+use Rattle.std.specs.Prelude.{All, Contains, nat_lt, option_map, option_and_then}
 use Rattle.std.specs.Option.{option_map_or, SomeIff}
 use Rattle.std.proofs.lemmas.Bool.Decides.{Decides-ltb}
 use Rattle.std.proofs.lemmas.List.{map-append, take_more}
@@ -15,7 +15,6 @@ use Rattle.mx_meta.specs.Places.{place_in, place_of, place_below, stands_in_orde
 use Rattle.mx_meta.specs.Rising.{is_rising}
 use Rattle.mx_meta.specs.declared.commit_meta.CommitMeta.{CommitMeta}
 use Rattle.mx_meta.specs.declared.commit_meta.PartitionStats.{PartitionStats}
-use Rattle.mx_meta.specs.declared.commit_meta.WriteStat.{WriteStat}
 use Rattle.mx_meta.specs.declared.places.Place.{Place}
 use Rattle.mx_meta.specs.declared.places.ShardFile.TheVariants.{Log as ShardLog}
 use Rattle.mx_meta.proofs.PlaceLemmas.{place_found}

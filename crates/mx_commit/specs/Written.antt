@@ -9,7 +9,6 @@ use Rattle.mx_meta.specs.CommitText.{stat_below}
 use Rattle.mx_meta.specs.Rising.{is_rising}
 use Rattle.mx_meta.specs.declared.commit_meta.CommitMeta.{CommitMeta}
 use Rattle.mx_meta.specs.declared.commit_meta.PartitionStats.{PartitionStats}
-use Rattle.mx_meta.specs.declared.commit_meta.WriteStat.{WriteStat}
 use Rattle.mx_commit.specs.declared.written.Written.{Written}
 
 -- where the data file of the instant stands

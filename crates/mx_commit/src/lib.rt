@@ -10,6 +10,7 @@
 //! | `plan_commit` | the changes of a commit of the files, which read back (`specs/Changes.antt`, `IsPlanOf`) |
 #![tactic(auto)]
 
+mod adding;
 mod entries;
 mod meta;
 mod plan;

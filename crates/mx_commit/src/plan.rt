@@ -3,22 +3,25 @@ ghost use Rattle.serde_json.specs.Written.{compact_text};
 ghost use Rattle.mx_ask.specs.Asks.{IsFileText};
 ghost use Rattle.mx_base.specs.Objects.{object_path};
 ghost use Rattle.mx_folder.specs.Named as named;
-ghost use Rattle.mx_meta.specs.AddedText.{added_data, added_of};
+ghost use Rattle.mx_folder.specs.Slices.{log_of};
+ghost use Rattle.mx_hfile.specs.Encoding.{AreEntries};
+ghost use Rattle.mx_log.specs.Encoding.{log_encoding};
 ghost use Rattle.mx_meta.specs.CommitText.{HasSmallCounts, IsWellFormed, commit_meta_data, commit_meta_of};
 ghost use Rattle.mx_meta.specs.PathLists.{path_list_data, path_list_of};
 ghost use Rattle.mx_meta.specs.ShardFiles.{delta_meta_data, delta_meta_of};
 ghost use Rattle.mx_store.specs.declared.change.Change.TheVariants.{Create};
-ghost use Rattle.mx_commit.specs.Changes.{IsPlanOf, added_changes, completion, data_changes, file_changes, files_added, files_planned, log_changes, logs_written};
+ghost use Rattle.mx_commit.specs.Changes.{IsPlanOf, added_changes, completion, data_changes, file_changes, files_planned, log_changes, logs_written};
 ghost use Rattle.mx_commit.specs.Written.{AreApartFiles, AreWritten, data_file};
 
 use crate::Written;
+use crate::adding::{added_entries, log_bytes};
 use crate::meta::meta_of;
 use mx_ask::FileText;
 use mx_base::{
-    ActionKind, ActionState, Instant, MetadataActionKind, ObjectName, Part, Path, data_file_name,
+    ActionKind, ActionState, Entry, Instant, MetadataActionKind, ObjectName, Part, Path,
 };
 use mx_lists::{Bytes, Listed};
-use mx_meta::{AddedFile, AddedLog, CommitMeta, DeltaMeta, PathList};
+use mx_meta::{CommitMeta, DeltaMeta, PathList};
 use mx_store::Change;
 use std::alloc::{AllocError, Global};
 
@@ -39,7 +42,8 @@ pub fn plan_commit(
     let meta = meta_of(alloc, written)?;
     let mut changes = Vec::new(alloc);
     push_files(alloc, &mut changes, at, files)?;
-    push_logs(alloc, &mut changes, at, files)?;
+    let entries = added_entries(alloc, at, files)?;
+    push_logs(alloc, &mut changes, at, files, entries.as_slice())?;
     push_completion(alloc, &mut changes, at, &meta)?;
     Ok(changes)
 }
@@ -101,15 +105,17 @@ fn push_logs(
     changes: &mut Vec<Change>,
     at: Instant,
     files: &[FileText],
+    entries: &[Entry],
 ) -> Result<(), AllocError>
     requires meant { 0 < at }
-    ensures changes { OnOk result (changes.new.items ≡ changes.old.items ++ log_changes files.now at) }
-    ensures added { OnOk result (added_of (compact_text (added_data (files_added files.now at))) ≡ Some (files_added files.now at)) }
+    requires entries { AreEntries entries.now }
+    ensures changes { OnOk result (changes.new.items ≡ changes.old.items ++ log_changes files.now at entries.now) }
+    ensures added { OnOk result (log_of at (log_encoding at entries.now) ≡ Some entries.now) }
     ensures logs { OnOk result (delta_meta_of (compact_text (delta_meta_data (logs_written files.now at))) ≡ Some (logs_written files.now at)) }
 {
     push(changes, mark(alloc, delta(at, false))?)?;
-    let added = added_text(alloc, at, files)?;
-    push_added(alloc, changes, at, files, added)?;
+    let log = log_bytes(alloc, at, entries)?;
+    push_added(alloc, changes, at, files, entries, log)?;
     let logs = logs_text(alloc, at, files)?;
     push(changes, create(alloc, delta(at, true), logs)?)
 }
@@ -120,14 +126,15 @@ fn push_added(
     changes: &mut Vec<Change>,
     at: Instant,
     files: &[FileText],
-    added: Bytes,
+    entries: &[Entry],
+    log: Bytes,
 ) -> Result<(), AllocError>
-    requires text { added ≡ compact_text (added_data (files_added files.now at)) }
-    ensures { OnOk result (changes.new.items ≡ changes.old.items ++ added_changes files.now at) }
+    requires text { log ≡ log_encoding at entries.now }
+    ensures { OnOk result (changes.new.items ≡ changes.old.items ++ added_changes files.now at entries.now) }
 {
     match files {
         [] => Ok(()),
-        [_, ..] => push(changes, create(alloc, files_log(at), added)?),
+        [_, ..] => push(changes, create(alloc, files_log(at), log)?),
     }
 }
 
@@ -187,40 +194,6 @@ fn planned_paths(alloc: Global, at: Instant, files: &[FileText]) -> Result<Liste
         paths.push(Path::of_data_file(alloc, &file.partition, &file.file, at)?)?;
     }
     Ok(paths)
-}
-
-fn added_text(alloc: Global, at: Instant, files: &[FileText]) -> Result<Bytes, AllocError>
-    ensures text { IfOk result (λ bytes. bytes ≡ compact_text (added_data (files_added files.now at))) }
-    ensures reads { OnOk result (added_of (compact_text (added_data (files_added files.now at))) ≡ Some (files_added files.now at)) }
-{
-    let log = AddedLog {
-        added: added_files(alloc, at, files)?,
-    };
-    log.print(alloc)
-}
-
-fn added_files(
-    alloc: Global,
-    at: Instant,
-    files: &[FileText],
-) -> Result<Listed<AddedFile>, AllocError>
-    ensures { IfOk result (λ added. added ≡ files_added files.now at) }
-{
-    let mut added = Listed::new(alloc);
-    for file in files {
-        added.push(added_file(alloc, at, file)?)?;
-    }
-    Ok(added)
-}
-
-fn added_file(alloc: Global, at: Instant, file: &FileText) -> Result<AddedFile, AllocError>
-    ensures { IfOk result (λ added. files_added (file.now ∷ []) at ≡ added ∷ []) }
-{
-    Ok(AddedFile {
-        name: data_file_name(alloc, &file.file, at)?,
-        partition: file.partition.clone()?,
-        size: file.text.as_str().len() as u64,
-    })
 }
 
 fn logs_text(alloc: Global, at: Instant, files: &[FileText]) -> Result<Bytes, AllocError>

@@ -18,58 +18,62 @@ const SECOND: &str = "22222222-2222-4222-8222-222222222222";
 
 const THIRD: &str = "33333333-3333-4333-8333-333333333333";
 
+// The log of these files, as tools/print-index-objects prints it.
+const LOG: &[u8] =
+    b"#HUDI#\x00\x01\x00G\xf1\\\x0c\xc5R\x00\x00\x00\x00\x00\x00\x00\x01\xb6DATABLK*\x00\x00\x01B\x00\x0a2024-01-01\x00\x00\x00\x98\x00\x04\x02\x04\x88\x0111111111-1111-4111-8111-111111111111_0-0-0_20250101000000000.parquet\x0a\x00\x88\x0122222222-2222-4222-8222-222222222222_0-0-0_20250101000000000.parquet\x04\x00\x00\x00\x00\x00\x00\x0a2024-02-02\x00\x00\x00P\x00\x04\x02\x02\x88\x0133333333-3333-4333-8333-333333333333_0-0-0_20250101000000000.parquet\x10\x00\x00\x00\x00\x00\x00\x12__all_partitions__\x00\x00\x00\"\x00\x02\x02\x04\x142024-01-01\x00\x00\x142024-02-02\x00\x00\x00\x00\x00\x00IDXROOT2\x00\x00\x00\x1c\x00\x00\x00\x01\x00\x00\x00\x00\x00\x00\x00\x00\x00\x00\x01N\x00\x0a2024-01-01MDTTRAIL\x00\x00\x00\x01\x00\x00\x00\x00\x00\x00\x00\x00\x00\x00\x01N\x00\x00\x00\x00\x00\x00\x00(\x00\x00\x00\x00\x00\x00\x00\x03\x00\x00\x00\x01\x00\x00\x00\x00\x00\x00\x00\x00\x00\x00\x00\x00\x00\x00\x00\x00\x00\x00\x00\x00";
+
 // The changes of a commit of three files whose partitions and ids come in falling order.
-const CHANGES: [(&str, &str); 9] = [
-    (".hoodie/20250101000000000.commit.requested", "{}"),
+const CHANGES: [(&str, &[u8]); 9] = [
+    (".hoodie/20250101000000000.commit.requested", b"{}"),
     (
         ".hoodie/20250101000000000.inflight",
-        "{\"paths\":[\"2024-02-02/33333333-3333-4333-8333-333333333333_0-0-0_20250101000000000.parquet\",\"2024-01-01/22222222-2222-4222-8222-222222222222_0-0-0_20250101000000000.parquet\",\"2024-01-01/11111111-1111-4111-8111-111111111111_0-0-0_20250101000000000.parquet\"]}",
+        b"{\"paths\":[\"2024-02-02/33333333-3333-4333-8333-333333333333_0-0-0_20250101000000000.parquet\",\"2024-01-01/22222222-2222-4222-8222-222222222222_0-0-0_20250101000000000.parquet\",\"2024-01-01/11111111-1111-4111-8111-111111111111_0-0-0_20250101000000000.parquet\"]}",
     ),
     (
         "2024-02-02/33333333-3333-4333-8333-333333333333_0-0-0_20250101000000000.parquet",
-        "greeting",
+        b"greeting",
     ),
     (
         "2024-01-01/22222222-2222-4222-8222-222222222222_0-0-0_20250101000000000.parquet",
-        "hi",
+        b"hi",
     ),
     (
         "2024-01-01/11111111-1111-4111-8111-111111111111_0-0-0_20250101000000000.parquet",
-        "hello",
+        b"hello",
     ),
     (
         ".hoodie/metadata/.hoodie/20250101000000000.deltacommit.inflight",
-        "{}",
+        b"{}",
     ),
     (
         ".hoodie/metadata/files/files-0000_20250101000000000.log",
-        "{\"added\":[{\"name\":\"33333333-3333-4333-8333-333333333333_0-0-0_20250101000000000.parquet\",\"partition\":\"2024-02-02\",\"size\":8},{\"name\":\"22222222-2222-4222-8222-222222222222_0-0-0_20250101000000000.parquet\",\"partition\":\"2024-01-01\",\"size\":2},{\"name\":\"11111111-1111-4111-8111-111111111111_0-0-0_20250101000000000.parquet\",\"partition\":\"2024-01-01\",\"size\":5}]}",
+        LOG,
     ),
     (
         ".hoodie/metadata/.hoodie/20250101000000000.deltacommit",
-        "{\"logs\":[\".hoodie/metadata/files/files-0000_20250101000000000.log\"]}",
+        b"{\"logs\":[\".hoodie/metadata/files/files-0000_20250101000000000.log\"]}",
     ),
     (
         ".hoodie/20250101000000000.commit",
-        "{\"partitionToWriteStats\":{\"2024-01-01\":[{\"fileId\":\"11111111-1111-4111-8111-111111111111\",\"fileSizeInBytes\":5,\"numWrites\":0,\"path\":\"2024-01-01/11111111-1111-4111-8111-111111111111_0-0-0_20250101000000000.parquet\",\"prevCommit\":\"null\"},{\"fileId\":\"22222222-2222-4222-8222-222222222222\",\"fileSizeInBytes\":2,\"numWrites\":0,\"path\":\"2024-01-01/22222222-2222-4222-8222-222222222222_0-0-0_20250101000000000.parquet\",\"prevCommit\":\"20241231000000000\"}],\"2024-02-02\":[{\"fileId\":\"33333333-3333-4333-8333-333333333333\",\"fileSizeInBytes\":8,\"numWrites\":0,\"path\":\"2024-02-02/33333333-3333-4333-8333-333333333333_0-0-0_20250101000000000.parquet\",\"prevCommit\":\"null\"}]}}",
+        b"{\"partitionToWriteStats\":{\"2024-01-01\":[{\"fileId\":\"11111111-1111-4111-8111-111111111111\",\"fileSizeInBytes\":5,\"numWrites\":0,\"path\":\"2024-01-01/11111111-1111-4111-8111-111111111111_0-0-0_20250101000000000.parquet\",\"prevCommit\":\"null\"},{\"fileId\":\"22222222-2222-4222-8222-222222222222\",\"fileSizeInBytes\":2,\"numWrites\":0,\"path\":\"2024-01-01/22222222-2222-4222-8222-222222222222_0-0-0_20250101000000000.parquet\",\"prevCommit\":\"20241231000000000\"}],\"2024-02-02\":[{\"fileId\":\"33333333-3333-4333-8333-333333333333\",\"fileSizeInBytes\":8,\"numWrites\":0,\"path\":\"2024-02-02/33333333-3333-4333-8333-333333333333_0-0-0_20250101000000000.parquet\",\"prevCommit\":\"null\"}]}}",
     ),
 ];
 
 // The changes of a commit without files.
-const EMPTY_CHANGES: [(&str, &str); 5] = [
-    (".hoodie/20250101000000000.commit.requested", "{}"),
-    (".hoodie/20250101000000000.inflight", "{\"paths\":[]}"),
+const EMPTY_CHANGES: [(&str, &[u8]); 5] = [
+    (".hoodie/20250101000000000.commit.requested", b"{}"),
+    (".hoodie/20250101000000000.inflight", b"{\"paths\":[]}"),
     (
         ".hoodie/metadata/.hoodie/20250101000000000.deltacommit.inflight",
-        "{}",
+        b"{}",
     ),
     (
         ".hoodie/metadata/.hoodie/20250101000000000.deltacommit",
-        "{\"logs\":[]}",
+        b"{\"logs\":[]}",
     ),
     (
         ".hoodie/20250101000000000.commit",
-        "{\"partitionToWriteStats\":{}}",
+        b"{\"partitionToWriteStats\":{}}",
     ),
 ];
 
@@ -130,10 +134,10 @@ fn planned(alloc: Global, files: &[FileText]) -> Result<Vec<Change>, Fail> {
     }
 }
 
-fn is_create(change: &Change, path: &str, text: &str) -> bool {
+fn is_create(change: &Change, path: &str, expected: &[u8]) -> bool {
     match change {
         Change::Create { path: found, bytes } => {
-            found.as_str() == path && bytes.as_slice() == text.as_bytes()
+            found.as_str() == path && bytes.as_slice() == expected
         }
         _ => false,
     }
@@ -151,8 +155,8 @@ fn a_commit_lists_its_files_as_asked_and_its_entries_in_byte_order(
     ];
     let changes = planned(alloc, files_of(alloc, &asked)?.as_slice())?;
     assert_eq!(rt; changes.len(), CHANGES.len());
-    for (change, (path, text)) in changes.iter().zip(CHANGES) {
-        assert!(rt; is_create(change, path, text), "{path}");
+    for (change, (path, bytes)) in changes.iter().zip(CHANGES) {
+        assert!(rt; is_create(change, path, bytes), "{path}");
     }
     Ok(())
 }
@@ -162,8 +166,8 @@ fn a_commit_without_files_writes_no_log(rt: HostRuntime) -> Result<(), Fail> {
     let alloc = rt.alloc();
     let changes = planned(alloc, &[])?;
     assert_eq!(rt; changes.len(), EMPTY_CHANGES.len());
-    for (change, (path, text)) in changes.iter().zip(EMPTY_CHANGES) {
-        assert!(rt; is_create(change, path, text), "{path}");
+    for (change, (path, bytes)) in changes.iter().zip(EMPTY_CHANGES) {
+        assert!(rt; is_create(change, path, bytes), "{path}");
     }
     Ok(())
 }

@@ -1,21 +1,18 @@
 -- The commits that count, before and after a change.
 use Rattle.std.proofs.Common.{◌≡◌, ◌≢◌, ℕ, zero, suc, ◌<◌, ◌≤◌, arith, List, [], ◌∷◌, ◌++◌, Option, Some, None, IsSome, refl, sym, ◌∙◌, ap, subst, ⊎_elim, append-nil}
 use Rattle.std.specs.Prelude.{option_and_then, option_map, unwrap_or}
-use Rattle.std.specs.List.{fold}
-use Rattle.std.specs.FinMap as finmap
 use Rattle.std.specs.Option.{option_to_list}
-use Rattle.std.proofs.lemmas.Grind.{flat_map-append, fold-append}
+use Rattle.std.proofs.lemmas.Grind.{flat_map-append}
 use Rattle.std.proofs.Math.Nat.{eq-or-lt_of_le}
-use Rattle.mx_meta.specs.AddedText.{added_of}
 use Rattle.mx_meta.specs.CommitText.{commit_meta_of}
-use Rattle.mx_meta.specs.declared.added.AddedFile.{AddedFile}
+use Rattle.mx_base.specs.declared.entry.Entry.{Entry}
 use Rattle.mx_meta.specs.declared.commit_meta.CommitMeta.{CommitMeta}
 use Rattle.mx_model.specs.declared.action.Action.{Action}
-use Rattle.mx_model.specs.Maps.{FilesMap, files_map, with_file}
 use Rattle.mx_model.specs.Timeline.{action_of}
 use Rattle.mx_store.specs.Objects.{Objects}
-use Rattle.mx_folder.specs.Named.{object_at, commit_name, log_name}
-use Rattle.mx_folder.specs.Actions.{IsCompleted, action_at, actions_upto, added_at, logged_files}
+use Rattle.mx_folder.specs.Named.{object_at, commit_name, log_name, first_base}
+use Rattle.mx_folder.specs.Actions.{IsCompleted, action_at, actions_upto}
+use Rattle.mx_folder.specs.Slices.{base_of, log_of, base_entries, entries_at, logged_entries}
 
 pub action_at-same : (o n : Objects) (at : ℕ) → object_at n (commit_name at) ≡ object_at o (commit_name at) → action_at n at ≡ action_at o at
 unfolding action_at
@@ -29,9 +26,13 @@ pub action_at-some : (o : Objects) (at : ℕ) (bytes : List ℕ) (meta : CommitM
 unfolding action_at
 action_at-some o at bytes meta stands reads = ap (λ (x : Option (List ℕ)). option_and_then (action_of at) x) stands ∙ ap (λ (x : Option CommitMeta). option_map (λ (m : CommitMeta). record { at = at; meta = m }) x) reads
 
-pub added_at-same : (o n : Objects) (at : ℕ) → object_at n (log_name at) ≡ object_at o (log_name at) → added_at n at ≡ added_at o at
-unfolding added_at
-added_at-same o n at same = ap (λ (x : Option (List ℕ)). unwrap_or (option_and_then added_of x) []) same
+pub entries_at-same : (o n : Objects) (at : ℕ) → object_at n (log_name at) ≡ object_at o (log_name at) → entries_at n at ≡ entries_at o at
+unfolding entries_at
+entries_at-same o n at same = ap (λ (x : Option (List ℕ)). unwrap_or (option_and_then (log_of at) x) []) same
+
+pub base_entries-same : (o n : Objects) → object_at n first_base ≡ object_at o first_base → base_entries n ≡ base_entries o
+unfolding base_entries
+base_entries-same o n same = ap (λ (x : Option (List ℕ)). unwrap_or (option_and_then base_of x) []) same
 
 -- an action that counts is a completed commit of its own instant
 some_action : (at : ℕ) (x : Option (List ℕ)) (action : Action) → option_and_then (action_of at) x ≡ Some action → (action.at ≡ at) × IsSome x
@@ -62,21 +63,21 @@ module _ (o n : Objects) (bound : ℕ) (commits : (at : ℕ) → at ≤ bound �
 -- ---- folders with the same logs of completed commits
 
 module _ (o n : Objects) (logs : (at : ℕ) → IsCompleted o at → object_at n (log_name at) ≡ object_at o (log_name at)) where
-  one_logged : (at : ℕ) (a : Option Action) → action_at o at ≡ a → logged_files n (option_to_list a) ≡ logged_files o (option_to_list a)
+  one_logged : (at : ℕ) (a : Option Action) → action_at o at ≡ a → logged_entries n (option_to_list a) ≡ logged_entries o (option_to_list a)
   one_logged at None is = refl
   one_logged at (Some action) is =
       let done = completed_action o at action is in
-      let same : added_at n action.at ≡ added_at o action.at = added_at-same o n action.at (subst (λ (t : ℕ). object_at n (log_name t) ≡ object_at o (log_name t)) (sym done.0) (logs at done.1)) in
-      ap (λ (fs : List AddedFile). fs ++ []) same
+      let same : entries_at n action.at ≡ entries_at o action.at = entries_at-same o n action.at (subst (λ (t : ℕ). object_at n (log_name t) ≡ object_at o (log_name t)) (sym done.0) (logs at done.1)) in
+      ap (λ (es : List Entry). es ++ []) same
 
-  pub logged_files-same : (p : ℕ) → logged_files n (actions_upto o p) ≡ logged_files o (actions_upto o p)
+  pub logged_entries-same : (p : ℕ) → logged_entries n (actions_upto o p) ≡ logged_entries o (actions_upto o p)
   unfolding actions_upto
-  logged_files-same zero = one_logged 0 (action_at o 0) refl
-  logged_files-same (suc p) =
-      flat_map-append (λ (a : Action). added_at n a.at) (actions_upto o p) (option_to_list (action_at o (suc p)))
-      ∙ ap (λ (fs : List AddedFile). fs ++ logged_files n (option_to_list (action_at o (suc p)))) (logged_files-same p)
-      ∙ ap (λ (fs : List AddedFile). logged_files o (actions_upto o p) ++ fs) (one_logged (suc p) (action_at o (suc p)) refl)
-      ∙ sym (flat_map-append (λ (a : Action). added_at o a.at) (actions_upto o p) (option_to_list (action_at o (suc p))))
+  logged_entries-same zero = one_logged 0 (action_at o 0) refl
+  logged_entries-same (suc p) =
+      flat_map-append (λ (a : Action). entries_at n a.at) (actions_upto o p) (option_to_list (action_at o (suc p)))
+      ∙ ap (λ (es : List Entry). es ++ logged_entries n (option_to_list (action_at o (suc p)))) (logged_entries-same p)
+      ∙ ap (λ (es : List Entry). logged_entries o (actions_upto o p) ++ es) (one_logged (suc p) (action_at o (suc p)) refl)
+      ∙ sym (flat_map-append (λ (a : Action). entries_at o a.at) (actions_upto o p) (option_to_list (action_at o (suc p))))
 
 -- ---- one commit more, at an instant above the others
 
@@ -121,8 +122,3 @@ module _ (o n : Objects) (at : ℕ) (commits : (a : ℕ) → a ≢ at → object
       (λ (same : at ≡ suc p). upto_at (suc p) (sym same))
       (λ (above : at < suc p). upto_later p above (upto_from p (omega (arith, above))))
       (eq-or-lt_of_le within)
-
--- maps of two lists that were the same, with files behind that add the same to any map
-pub files_map-append : (xs ys more others : List AddedFile) → files_map xs ≡ files_map ys → ((m : FilesMap) → fold with_file m more ≡ fold with_file m others) → files_map (xs ++ more) ≡ files_map (ys ++ others)
-files_map-append xs ys more others same alike =
-    fold-append with_file finmap.empty xs more ∙ ap (λ (m : FilesMap). fold with_file m more) same ∙ alike (files_map ys) ∙ sym (fold-append with_file finmap.empty ys others)

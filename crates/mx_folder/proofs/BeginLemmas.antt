@@ -1,6 +1,6 @@
 -- A new table.
 use Rattle.std.proofs.Common.{◌≡◌, ◌≢◌, ◌⊎◌, inl, inr, ⊎_elim, ℕ, zero, suc, ◌<◌, arith, get_or, List, [], ◌∷◌, ◌++◌, Option, Some, None, IsSome, refl, sym, ◌∙◌, ap, subst, codes}
-use Rattle.std.specs.Prelude.{option_and_then, Contains, unwrap_or}
+use Rattle.std.specs.Prelude.{option_and_then, Contains, unwrap_or, Ok, length, ◌≤◌}
 use Rattle.std.specs.Option.{option_to_list}
 use Rattle.std.specs.FinMap as finmap
 use Rattle.std.specs.Str.{is_utf8, chars}
@@ -22,16 +22,24 @@ use Rattle.mx_meta.specs.ShardFiles.{base_meta_data, base_meta_in, base_meta_of,
 use Rattle.mx_meta.specs.Views.{Bases}
 use Rattle.mx_model.specs.declared.action.Action.{Action}
 use Rattle.mx_model.specs.Listing.{listed_files}
-use Rattle.mx_model.specs.Maps.{files_map}
+use Rattle.mx_files.specs.Files.{files_map, expected_on}
+use Rattle.mx_files.proofs.DeltaLemmas.{expected-nothing}
+use Rattle.mx_base.specs.declared.entry.Entry.{Entry}
+use Rattle.mx_hfile.specs.Encoding.{encoding, blocks_of, number, data_magic, index_magic, trailer_magic}
+use Rattle.mx_hfile.specs.Decoding.{file_in}
+use Rattle.mx_hfile.proofs.FileLemmas.{file_again}
+use Rattle.mx_merge.specs.Merged.{shown_on, payloads_on_key}
+use Rattle.mx_merge.specs.Shown.{shown}
 use Rattle.mx_props.specs.Config.{IsConfig, config_text}
 use Rattle.mx_schema.specs.Columns.{IsSchema}
 use Rattle.mx_schema.specs.declared.column.Column.{Column}
 use Rattle.mx_store.specs.Objects.{Objects, at_path}
 use Rattle.mx_store.proofs.Paths.{at_nothing, at_same, at_other, cases_path}
 use Rattle.mx_folder.specs.Named.{object_at, commit_name, first_base, first_bases}
-use Rattle.mx_folder.specs.Actions.{IsCompleted, action_at, actions_upto, logged_files}
+use Rattle.mx_folder.specs.Actions.{IsCompleted, action_at, actions_upto}
+use Rattle.mx_folder.specs.Slices.{entries_read, base_of, base_entries, logged_entries}
 use Rattle.mx_folder.specs.Begin.{first_mark, first_meta, first_config}
-use Rattle.mx_folder.specs.Reading.{IsEmptyObject, HasBase, named_bases, Reads}
+use Rattle.mx_folder.specs.Reading.{IsEmptyObject, HasBase, named_bases, Reads, ReadsAsBase}
 use Rattle.mx_folder.specs.Folder.{IsObjectAt, IsNeeded, IsOpenable, IsValidTable}
 use Rattle.mx_folder.proofs.NamedLemmas.{object_at-is, object_at-stands, is_some_same, other_path}
 use Rattle.mx_folder.proofs.ActionLemmas.{action_at-none}
@@ -43,6 +51,24 @@ empty_object = refl
 pub first_meta_reads : base_meta_of (compact_text (base_meta_data first_meta)) ≡ Some first_meta
 unfolding base_meta_of base_meta_in object_of json_of base_meta_data serde_json_on_literals object_path instant_text instant_in instant_of paths_in paths_data shard_files_in stands_in_order shard_object is_utf8 chars is_path is_segment
 first_meta_reads = refl
+
+pub empty_length : length (encoding []) ≤ 268_435_456
+unfolding encoding blocks_of number data_magic index_magic trailer_magic
+empty_length = omega arith
+
+empty_file : file_in (encoding []) ≡ Ok []
+empty_file = file_again [] (record { rising = tt; each = tt }) empty_length
+
+pub empty_base : base_of (encoding []) ≡ Some []
+unfolding base_of
+empty_base = ap entries_read empty_file
+
+pub empty_base_reads : ReadsAsBase (encoding [])
+empty_base_reads = ([], empty_base, tt)
+
+nothing_shown : (key : List ℕ) → shown_on key [] ≡ None
+unfolding shown_on payloads_on_key shown
+nothing_shown key = refl
 
 -- an element of a list of one
 only_one : {X : Type 0} (x y : X) → Contains (x ∷ []) y → y ≡ x
@@ -67,7 +93,7 @@ module _ (schema : List Column) where
   mark_objects = finmap.insert finmap.empty (object_path first_mark) (codes "{}")
 
   abbrev base_objects : Objects
-  base_objects = finmap.insert mark_objects (object_path first_base) (codes "{}")
+  base_objects = finmap.insert mark_objects (object_path first_base) (encoding [])
 
   abbrev meta_text : List ℕ
   meta_text = compact_text (base_meta_data first_meta)
@@ -81,7 +107,7 @@ module _ (schema : List Column) where
   made : (q x : List ℕ) → at_path o q ≡ Some x →
       ((q ≡ object_path Config) × (x ≡ config_text (first_config schema)))
       ⊎ (((q ≡ object_path first_bases) × (x ≡ meta_text))
-      ⊎ (((q ≡ object_path first_base) × (x ≡ codes "{}")) ⊎ ((q ≡ object_path first_mark) × (x ≡ codes "{}"))))
+      ⊎ (((q ≡ object_path first_base) × (x ≡ encoding [])) ⊎ ((q ≡ object_path first_mark) × (x ≡ codes "{}"))))
   made q x stands = fourth (after_create bases_objects (object_path Config) (config_text (first_config schema)) q x stands)
     where
       first : (at_path mark_objects q ≡ Some x) → (q ≡ object_path first_mark) × (x ≡ codes "{}")
@@ -90,13 +116,13 @@ module _ (schema : List Column) where
           (λ (none : at_path finmap.empty q ≡ Some x). absurd (cc (sym (at_nothing q) ∙ none)))
           (after_create finmap.empty (object_path first_mark) (codes "{}") q x stands)
 
-      second : (at_path base_objects q ≡ Some x) → ((q ≡ object_path first_base) × (x ≡ codes "{}")) ⊎ ((q ≡ object_path first_mark) × (x ≡ codes "{}"))
+      second : (at_path base_objects q ≡ Some x) → ((q ≡ object_path first_base) × (x ≡ encoding [])) ⊎ ((q ≡ object_path first_mark) × (x ≡ codes "{}"))
       second stands = ⊎_elim
-          (λ (here : (q ≡ object_path first_base) × (x ≡ codes "{}")). inl here)
+          (λ (here : (q ≡ object_path first_base) × (x ≡ encoding [])). inl here)
           (λ (there : at_path mark_objects q ≡ Some x). inr (first there))
-          (after_create mark_objects (object_path first_base) (codes "{}") q x stands)
+          (after_create mark_objects (object_path first_base) (encoding []) q x stands)
 
-      third : (at_path bases_objects q ≡ Some x) → ((q ≡ object_path first_bases) × (x ≡ meta_text)) ⊎ (((q ≡ object_path first_base) × (x ≡ codes "{}")) ⊎ ((q ≡ object_path first_mark) × (x ≡ codes "{}")))
+      third : (at_path bases_objects q ≡ Some x) → ((q ≡ object_path first_bases) × (x ≡ meta_text)) ⊎ (((q ≡ object_path first_base) × (x ≡ encoding [])) ⊎ ((q ≡ object_path first_mark) × (x ≡ codes "{}")))
       third stands = ⊎_elim
           (λ (here : (q ≡ object_path first_bases) × (x ≡ meta_text)). inl here)
           (λ (there : at_path base_objects q ≡ Some x). inr (second there))
@@ -104,7 +130,7 @@ module _ (schema : List Column) where
 
       fourth : ((q ≡ object_path Config) × (x ≡ config_text (first_config schema))) ⊎ (at_path bases_objects q ≡ Some x) →
           ((q ≡ object_path Config) × (x ≡ config_text (first_config schema)))
-          ⊎ (((q ≡ object_path first_bases) × (x ≡ meta_text)) ⊎ (((q ≡ object_path first_base) × (x ≡ codes "{}")) ⊎ ((q ≡ object_path first_mark) × (x ≡ codes "{}"))))
+          ⊎ (((q ≡ object_path first_bases) × (x ≡ meta_text)) ⊎ (((q ≡ object_path first_base) × (x ≡ encoding [])) ⊎ ((q ≡ object_path first_mark) × (x ≡ codes "{}"))))
       fourth (inl here) = inl here
       fourth (inr there) = inr (third there)
 
@@ -116,11 +142,11 @@ module _ (schema : List Column) where
       at_other bases_objects (object_path Config) (config_text (first_config schema)) (object_path first_bases) (other_path first_bases Config refl refl (λ same. absurd (cc same)))
       ∙ at_same base_objects (object_path first_bases) meta_text
 
-  base_stands : at_path o (object_path first_base) ≡ Some (codes "{}")
+  base_stands : at_path o (object_path first_base) ≡ Some (encoding [])
   base_stands =
       at_other bases_objects (object_path Config) (config_text (first_config schema)) (object_path first_base) (other_path first_base Config refl refl (λ same. absurd (cc same)))
       ∙ at_other base_objects (object_path first_bases) meta_text (object_path first_base) (other_path first_base first_bases refl refl (λ same. absurd (cc same)))
-      ∙ at_same mark_objects (object_path first_base) (codes "{}")
+      ∙ at_same mark_objects (object_path first_base) (encoding [])
 
   -- ---- no commit is completed
 
@@ -158,6 +184,10 @@ module _ (schema : List Column) where
   no_actions zero = ap option_to_list (none_at 0)
   no_actions (suc at) = ap (λ (done : List Action). done ++ option_to_list (action_at o (suc at))) (no_actions at) ∙ ap option_to_list (none_at (suc at))
 
+  no_base_entries : base_entries o ≡ []
+  unfolding base_entries
+  no_base_entries = ap (λ (x : Option (List ℕ)). unwrap_or (option_and_then base_of x) []) (object_at-is o first_base refl ∙ base_stands) ∙ ap (λ (x : Option (List Entry)). unwrap_or x []) empty_base
+
   -- ---- each object is of its kind
 
   named : named_bases o ≡ Some first_meta
@@ -188,10 +218,10 @@ module _ (schema : List Column) where
   object_of_kind is q x stands = from (made q x stands)
     where
       from : ((q ≡ object_path Config) × (x ≡ config_text (first_config schema)))
-          ⊎ (((q ≡ object_path first_bases) × (x ≡ meta_text)) ⊎ (((q ≡ object_path first_base) × (x ≡ codes "{}")) ⊎ ((q ≡ object_path first_mark) × (x ≡ codes "{}")))) → IsObjectAt o q x
+          ⊎ (((q ≡ object_path first_bases) × (x ≡ meta_text)) ⊎ (((q ≡ object_path first_base) × (x ≡ encoding [])) ⊎ ((q ≡ object_path first_mark) × (x ≡ codes "{}")))) → IsObjectAt o q x
       from (inl here) = object_made Config q x (config_text (first_config schema)) refl (config_reads is) here.0 here.1
       from (inr (inl here)) = object_made first_bases q x meta_text refl (refl, first_meta_reads) here.0 here.1
-      from (inr (inr (inl here))) = object_made first_base q x (codes "{}") refl (refl, λ _. refl) here.0 here.1
+      from (inr (inr (inl here))) = object_made first_base q x (encoding []) refl (refl, λ _. empty_base_reads) here.0 here.1
       from (inr (inr (inr here))) = object_made first_mark q x (codes "{}") refl (refl, empty_object) here.0 here.1
 
   needed_stands : (q : List ℕ) → IsNeeded o q → IsSome (at_path o q)
@@ -211,6 +241,10 @@ module _ (schema : List Column) where
   pub new_valid : IsSchema schema → IsValidTable o
   new_valid is = record {
     opens = new_opens is;
-    shows = λ at.
-        ap (λ (done : List Action). files_map (logged_files o done)) (no_actions at) ∙ ap (λ (done : List Action). files_map (listed_files done)) (sym (no_actions at));
+    shows = λ at key.
+        ap (λ (done : List Action). shown_on key (base_entries o ++ logged_entries o done)) (no_actions at)
+        ∙ ap (λ (es : List Entry). shown_on key (es ++ [])) no_base_entries
+        ∙ nothing_shown key
+        ∙ sym (expected-nothing key)
+        ∙ ap (λ (done : List Action). expected_on key (files_map (listed_files done))) (sym (no_actions at));
   }

@@ -9,11 +9,12 @@ use Rattle.std.proofs.lemmas.Grind.{flat_map-append}
 use Rattle.std.proofs.lemmas.List.{append-nil}
 use Rattle.std.proofs.lemmas.List.Elements.{All-head, All-tail}
 use Rattle.std.proofs.lemmas.Map.Keys.{sorted_tail, below_from_sorted}
-use Rattle.mx_meta.specs.declared.added.AddedFile.{AddedFile}
+use Rattle.mx_base.specs.declared.entry.Entry.{Entry}
 use Rattle.mx_model.specs.declared.action.Action.{Action}
 use Rattle.mx_store.specs.Objects.{Objects}
 use Rattle.mx_folder.specs.Named.{object_at, commit_name}
-use Rattle.mx_folder.specs.Actions.{IsCompleted, action_at, actions_upto, added_at, logged_files}
+use Rattle.mx_folder.specs.Actions.{IsCompleted, action_at, actions_upto}
+use Rattle.mx_folder.specs.Slices.{entries_at, logged_entries}
 use Rattle.mx_folder.specs.Completed.{completed_upto}
 use Rattle.mx_folder.proofs.ActionLemmas.{completed_action}
 use Rattle.mx_folder.proofs.NamedLemmas.{object_at-stands}
@@ -107,22 +108,22 @@ module _ (o : Objects) (ks : List ℕ) (sorted : IsStrictlySortedBy nat_cmp ks) 
 -- ---- what their logs add
 
 -- where each completed commit reads, the logs of the completed commits are those of the commits that count
-pub logged_completed : (o : Objects) → ((at : ℕ) → IsCompleted o at → IsSome (action_at o at)) → (at : ℕ) → flat_map (added_at o) (completed_upto o at) ≡ logged_files o (actions_upto o at)
+pub logged_completed : (o : Objects) → ((at : ℕ) → IsCompleted o at → IsSome (action_at o at)) → (at : ℕ) → flat_map (entries_at o) (completed_upto o at) ≡ logged_entries o (actions_upto o at)
 unfolding completed_upto actions_upto
 logged_completed o reads zero = sym (none (action_at o zero) refl)
   where
-    none : (x : Option Action) → action_at o zero ≡ x → flat_map (λ (action : Action). added_at o action.at) (option_to_list x) ≡ []
+    none : (x : Option Action) → action_at o zero ≡ x → flat_map (λ (action : Action). entries_at o action.at) (option_to_list x) ≡ []
     none None is = refl
     none (Some action) is = absurd (zero_pending o (completed_action o zero action is).1)
 logged_completed o reads (suc at) =
-    flat_map-append (added_at o) (completed_upto o at) _
-    ∙ ap (λ (fs : List AddedFile). fs ++ flat_map (added_at o) (cond (is_some (object_at o (commit_name (suc at)))) (suc at ∷ []) [])) (logged_completed o reads at)
-    ∙ ap (λ (fs : List AddedFile). logged_files o (actions_upto o at) ++ fs) (step (is_some (object_at o (commit_name (suc at)))) refl (action_at o (suc at)) refl)
-    ∙ sym (flat_map-append (λ (action : Action). added_at o action.at) (actions_upto o at) (option_to_list (action_at o (suc at))))
+    flat_map-append (entries_at o) (completed_upto o at) _
+    ∙ ap (λ (fs : List Entry). fs ++ flat_map (entries_at o) (cond (is_some (object_at o (commit_name (suc at)))) (suc at ∷ []) [])) (logged_completed o reads at)
+    ∙ ap (λ (fs : List Entry). logged_entries o (actions_upto o at) ++ fs) (step (is_some (object_at o (commit_name (suc at)))) refl (action_at o (suc at)) refl)
+    ∙ sym (flat_map-append (λ (action : Action). entries_at o action.at) (actions_upto o at) (option_to_list (action_at o (suc at))))
   where
     step : (b : Bool) → is_some (object_at o (commit_name (suc at))) ≡ b → (x : Option Action) → action_at o (suc at) ≡ x
-        → flat_map (added_at o) (cond b (suc at ∷ []) []) ≡ flat_map (λ (action : Action). added_at o action.at) (option_to_list x)
+        → flat_map (entries_at o) (cond b (suc at ∷ []) []) ≡ flat_map (λ (action : Action). entries_at o action.at) (option_to_list x)
     step true stands None is = absurd (cc (sym (ap is_some is) ∙ reads (suc at) stands))
-    step true stands (Some action) is = ap (λ (n : ℕ). added_at o n ++ []) (sym (completed_action o (suc at) action is).0)
+    step true stands (Some action) is = ap (λ (n : ℕ). entries_at o n ++ []) (sym (completed_action o (suc at) action is).0)
     step false absent None is = refl
     step false absent (Some action) is = absurd (let done = completed_action o (suc at) action is in cc (sym absent ∙ done.1))

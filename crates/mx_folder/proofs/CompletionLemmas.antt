@@ -1,29 +1,36 @@
 -- The create that completes a commit.
 use Rattle.std.proofs.Common.{◌≡◌, ◌≢◌, ◌⊎◌, inl, inr, ⊎_elim, ℕ, ◌≤◌, ◌<◌, true, false, List, [], ◌∷◌, ◌++◌, Option, Some, None, IsSome, refl, sym, ◌∙◌, ap, subst}
-use Rattle.std.specs.Prelude.{option_and_then, Contains, unwrap_or, nat_eq}
+use Rattle.std.specs.Prelude.{option_and_then, option_to_list, fold, Contains, unwrap_or, nat_eq}
+use Rattle.std.specs.FinMap as finmap
 use Rattle.std.proofs.lemmas.Bool.{cases_lt}
 use Rattle.std.proofs.lemmas.Bool.Decides.{eqb_tells}
 use Rattle.std.proofs.lemmas.List.Elements.{All-contains}
-use Rattle.std.proofs.lemmas.Grind.{flat_map-append}
-use Rattle.std.proofs.lemmas.List.{append-nil}
+use Rattle.std.proofs.lemmas.Grind.{flat_map-append, fold-append}
+use Rattle.std.proofs.lemmas.List.{append-nil, append_assoc}
 use Rattle.mx_base.specs.Objects.{object_path}
 use Rattle.mx_base.specs.declared.object_name.ObjectName.{ObjectName}
 use Rattle.mx_base.specs.declared.object_name.ObjectName.TheVariants.{Config, Timeline}
 use Rattle.mx_meta.specs.CommitText.{commit_meta_of}
 use Rattle.mx_meta.specs.ShardFiles.{delta_meta_of}
-use Rattle.mx_meta.specs.declared.added.AddedFile.{AddedFile}
+use Rattle.mx_base.specs.declared.entry.Entry.{Entry}
+use Rattle.mx_base.specs.declared.entry.FileAt.{FileAt}
 use Rattle.mx_model.specs.declared.action.Action.{Action}
 use Rattle.mx_model.specs.Listing.{files_of, listed_files}
-use Rattle.mx_model.specs.Maps.{files_map}
+use Rattle.mx_files.specs.Files.{files_map, with_file, expected_on}
+use Rattle.mx_merge.specs.Shown.{shown}
+use Rattle.mx_merge.specs.Merged.{payloads_on_key, shown_on}
+use Rattle.mx_folder.proofs.SliceLemmas.{shown_on-append}
+use Rattle.mx_payload.specs.declared.payload.Payload.{Payload}
 use Rattle.mx_store.specs.Objects.{Objects, at_path}
 use Rattle.mx_store.proofs.Paths.{cases_path}
-use Rattle.mx_folder.specs.Named.{object_at, commit_name, delta_name, log_name, first_bases}
-use Rattle.mx_folder.specs.Actions.{IsCompleted, action_at, actions_upto, added_at, logged_files}
+use Rattle.mx_folder.specs.Named.{object_at, commit_name, delta_name, log_name, first_base, first_bases}
+use Rattle.mx_folder.specs.Actions.{IsCompleted, action_at, actions_upto}
+use Rattle.mx_folder.specs.Slices.{base_entries, entries_at, logged_entries, slice_at}
 use Rattle.mx_folder.specs.Folder.{IsObjectAt, IsNeeded, IsSound, IsOpenable, IsValidTable}
 use Rattle.mx_folder.specs.Steps.{DifferAt, MayComplete}
 use Rattle.mx_folder.proofs.NamedLemmas.{object_at-same, object_at-is, object_at-none, object_at-some, other_path, is_some_same}
 use Rattle.mx_folder.proofs.ReadingLemmas.{available_from, named_bases-same, reads_same}
-use Rattle.mx_folder.proofs.ActionLemmas.{action_at-some, added_at-same, upto_before, upto_from, logged_files-same, files_map-append}
+use Rattle.mx_folder.proofs.ActionLemmas.{action_at-some, base_entries-same, entries_at-same, upto_before, upto_from, logged_entries-same}
 
 -- the instant that a name of a commit is of
 commit_at : ObjectName → ℕ → ℕ
@@ -135,32 +142,50 @@ module _ (o n : Objects) (at : ℕ) (bytes : List ℕ) (may : MayComplete o at b
   none_before : object_at o (commit_name at) ≡ None
   none_before = object_at-none o (commit_name at) may.absent
 
-  logged_same : (p : ℕ) → logged_files n (actions_upto o p) ≡ logged_files o (actions_upto o p)
-  logged_same p = logged_files-same o n (λ a done. log_same a) p
+  base_same : base_entries n ≡ base_entries o
+  base_same = base_entries-same o n (name_same first_base (λ same. absurd (cc same)))
 
-  pub completion_shows : IsValidTable o → (p : ℕ) → files_map (logged_files n (actions_upto n p)) ≡ files_map (listed_files (actions_upto n p))
-  completion_shows valid p = ⊎_elim (λ (before : p < at). early before) (λ (within : at ≤ p). late within) (cases_lt p at)
+  logged_same : (p : ℕ) → logged_entries n (actions_upto o p) ≡ logged_entries o (actions_upto o p)
+  logged_same p = logged_entries-same o n (λ a done. log_same a) p
+
+  -- the slice of the commits before is the same
+  early_slice : (p : ℕ) → base_entries n ++ logged_entries n (actions_upto o p) ≡ slice_at o p
+  early_slice p = ap (λ (es : List Entry). es ++ logged_entries n (actions_upto o p)) base_same ∙ ap (λ (es : List Entry). base_entries o ++ es) (logged_same p)
+
+  -- the slice with the commit has its log behind
+  late_slice : (p : ℕ) → actions_upto n p ≡ actions_upto o p ++ action ∷ [] → slice_at n p ≡ slice_at o p ++ entries_at o at
+  late_slice p grown =
+      ap (λ (done : List Action). base_entries n ++ logged_entries n done) grown
+      ∙ ap (λ (es : List Entry). base_entries n ++ es) (flat_map-append (λ (a : Action). entries_at n a.at) (actions_upto o p) (action ∷ []))
+      ∙ sym (append_assoc (base_entries n) (logged_entries n (actions_upto o p)) (logged_entries n (action ∷ [])))
+      ∙ ap (λ (es : List Entry). es ++ logged_entries n (action ∷ [])) (early_slice p)
+      ∙ ap (λ (es : List Entry). slice_at o p ++ es) (append-nil (entries_at n at) ∙ entries_at-same o n at (log_same at))
+
+  -- the files with the commit's are those that its object lists behind the others
+  late_files : (p : ℕ) → actions_upto n p ≡ actions_upto o p ++ action ∷ [] → files_map (listed_files (actions_upto n p)) ≡ fold with_file (files_map (listed_files (actions_upto o p))) (files_of action)
+  late_files p grown =
+      ap (λ (done : List Action). files_map (listed_files done)) grown
+      ∙ ap (λ (fs : List FileAt). files_map fs) (flat_map-append files_of (actions_upto o p) (action ∷ []) ∙ ap (λ (fs : List FileAt). listed_files (actions_upto o p) ++ fs) (append-nil (files_of action)))
+      ∙ fold-append with_file finmap.empty (listed_files (actions_upto o p)) (files_of action)
+
+  pub completion_shows : IsValidTable o → (p : ℕ) (key : List ℕ) → shown_on key (slice_at n p) ≡ expected_on key (files_map (listed_files (actions_upto n p)))
+  completion_shows valid p key = ⊎_elim (λ (before : p < at). early before) (λ (within : at ≤ p). late (upto_from o n at commit_same none_before may.newest action counts p within)) (cases_lt p at)
     where
-      early : p < at → files_map (logged_files n (actions_upto n p)) ≡ files_map (listed_files (actions_upto n p))
+      early : p < at → shown_on key (slice_at n p) ≡ expected_on key (files_map (listed_files (actions_upto n p)))
       early before =
           let same = upto_before o n at commit_same none_before may.newest action counts p before in
-          ap (λ (done : List Action). files_map (logged_files n done)) same
-          ∙ ap (λ (fs : List AddedFile). files_map fs) (logged_same p)
-          ∙ valid.shows p
-          ∙ ap (λ (done : List Action). files_map (listed_files done)) (sym same)
+          ap (λ (done : List Action). shown_on key (base_entries n ++ logged_entries n done)) same
+          ∙ ap (shown_on key) (early_slice p)
+          ∙ valid.shows p key
+          ∙ ap (λ (done : List Action). expected_on key (files_map (listed_files done))) (sym same)
 
-      late : at ≤ p → files_map (logged_files n (actions_upto n p)) ≡ files_map (listed_files (actions_upto n p))
-      late within =
-          let same = upto_from o n at commit_same none_before may.newest action counts p within in
-          let here : logged_files n (action ∷ []) ≡ added_at o at ++ [] = ap (λ (fs : List AddedFile). fs ++ []) (added_at-same o n at (log_same at)) in
-          ap (λ (done : List Action). files_map (logged_files n done)) same
-          ∙ ap (λ (fs : List AddedFile). files_map fs)
-          (flat_map-append (λ (a : Action). added_at n a.at) (actions_upto o p) (action ∷ []) ∙ ap (λ (fs : List AddedFile). fs ++ logged_files n (action ∷ [])) (logged_same p)
-          ∙ ap (λ (fs : List AddedFile). logged_files o (actions_upto o p) ++ fs) (here ∙ append-nil (added_at o at)))
-          ∙ files_map-append (logged_files o (actions_upto o p)) (listed_files (actions_upto o p)) (added_at o at) (files_of action) (valid.shows p) may.logged
-          ∙ ap (λ (fs : List AddedFile). files_map (listed_files (actions_upto o p) ++ fs)) (sym (append-nil (files_of action)))
-          ∙ ap (λ (fs : List AddedFile). files_map fs) (sym (flat_map-append files_of (actions_upto o p) (action ∷ [])))
-          ∙ ap (λ (done : List Action). files_map (listed_files done)) (sym same)
+      late : actions_upto n p ≡ actions_upto o p ++ action ∷ [] → shown_on key (slice_at n p) ≡ expected_on key (files_map (listed_files (actions_upto n p)))
+      late grown =
+          ap (shown_on key) (late_slice p grown)
+          ∙ shown_on-append key (slice_at o p) (entries_at o at)
+          ∙ ap (λ (x : Option Payload). shown (option_to_list x ++ payloads_on_key key (entries_at o at))) (valid.shows p key)
+          ∙ may.logged (files_map (listed_files (actions_upto o p))) key
+          ∙ ap (expected_on key) (sym (late_files p grown))
 
   pub completion_keeps : IsValidTable o → IsValidTable n
   completion_keeps valid = record { opens = completion_opens valid.opens; shows = completion_shows valid }

@@ -1,13 +1,14 @@
 -- Files of other names may be put into a map in any order.
-use Rattle.std.proofs.Common.{◌≡◌, ◌≢◌, ◌⊎◌, ⊎_elim, ℕ, Bool, true, false, cond, List, Option, Some, refl, sym, ◌∙◌, ap}
+use Rattle.std.proofs.Common.{◌≡◌, ◌≢◌, ⊎_elim, ℕ, Bool, true, false, cond, List, Option, Some, refl, sym, ◌∙◌, ap}
 use Rattle.std.specs.Prelude.{fold, unwrap_or}
 use Rattle.std.specs.FinMap as finmap
 use Rattle.std.specs.FinMap.{FinMap}
 use Rattle.std.specs.Ordering.{nat_cmp, eq_by_cmp}
 use Rattle.std.specs.Cmp.Lexicographic.{slice_cmp, nat_list_cmp_total, texts_ties}
 use Rattle.std.proofs.lemmas.Slice.Eq.{bytes_eq-Decides}
-use Rattle.mx_meta.specs.declared.added.AddedFile.{AddedFile}
-use Rattle.mx_model.specs.Maps.{NumberMap, FilesMap, sizes_in, with_file}
+use Rattle.mx_base.specs.declared.entry.FileAt.{FileAt}
+use Rattle.mx_files.specs.Files.{FilesMap, name_of, sizes_in, with_file}
+use Rattle.mx_merge.specs.Shown.{SizeMap}
 use Rattle.mx_store.proofs.Paths.{cases_path}
 use Rattle.mx_folder.proofs.FoldLemmas.{Among, AreApart, fold_same}
 
@@ -53,42 +54,49 @@ module _ {V : Type 0} (m : FinMap (slice_cmp nat_cmp) V) where
 -- ---- two files of a map
 
 -- the files are of other partitions or of other names
-abbrev pub IsOtherFile : AddedFile → AddedFile → Type 0
-IsOtherFile x y = ¬ ((x.partition ≡ y.partition) × (x.name ≡ y.name))
+abbrev pub IsOtherFile : FileAt → FileAt → Type 0
+IsOtherFile x y = ¬ ((x.partition ≡ y.partition) × (name_of x ≡ name_of y))
 
 module _ (m : FilesMap) where
-  sizes_here : (p : List ℕ) (sizes : NumberMap) → sizes_in (finmap.insert m p sizes) p ≡ sizes
-  sizes_here p sizes = ap (λ (o : Option NumberMap). unwrap_or o finmap.empty) (finmap.get-insert nat_list_cmp_total m p sizes p ∙ ap (λ (b : Bool). cond b (Some sizes) (finmap.get m p)) (tied p))
+  sizes_here : (p : List ℕ) (sizes : SizeMap) → sizes_in (finmap.insert m p sizes) p ≡ sizes
+  sizes_here p sizes = ap (λ (o : Option SizeMap). unwrap_or o finmap.empty) (finmap.get-insert nat_list_cmp_total m p sizes p ∙ ap (λ (b : Bool). cond b (Some sizes) (finmap.get m p)) (tied p))
 
-  sizes_there : (p q : List ℕ) (sizes : NumberMap) → q ≢ p → sizes_in (finmap.insert m p sizes) q ≡ sizes_in m q
-  sizes_there p q sizes other = ap (λ (o : Option NumberMap). unwrap_or o finmap.empty) (finmap.get-insert nat_list_cmp_total m p sizes q ∙ ap (λ (b : Bool). cond b (Some sizes) (finmap.get m q)) (untied q p other _ refl))
+  sizes_there : (p q : List ℕ) (sizes : SizeMap) → q ≢ p → sizes_in (finmap.insert m p sizes) q ≡ sizes_in m q
+  sizes_there p q sizes other = ap (λ (o : Option SizeMap). unwrap_or o finmap.empty) (finmap.get-insert nat_list_cmp_total m p sizes q ∙ ap (λ (b : Bool). cond b (Some sizes) (finmap.get m q)) (untied q p other _ refl))
+
+-- the sizes of a partition with one more file
+abbrev grown : FilesMap → List ℕ → List ℕ → ℕ → FilesMap
+grown m p name size = finmap.insert m p (finmap.insert (sizes_in m p) name size)
 
 -- two files of one partition
-in_one : (m : FilesMap) (p a b : List ℕ) (s t : ℕ) → with_file (with_file m (record { name = a; partition = p; size = s })) (record { name = b; partition = p; size = t }) ≡ finmap.insert m p (finmap.insert (finmap.insert (sizes_in m p) a s) b t)
+in_one : (m : FilesMap) (p a b : List ℕ) (s t : ℕ) → grown (grown m p a s) p b t ≡ finmap.insert m p (finmap.insert (finmap.insert (sizes_in m p) a s) b t)
 in_one m p a b s t =
-    ap (λ (sizes : NumberMap). finmap.insert (finmap.insert m p (finmap.insert (sizes_in m p) a s)) p (finmap.insert sizes b t)) (sizes_here m p (finmap.insert (sizes_in m p) a s))
+    ap (λ (sizes : SizeMap). finmap.insert (finmap.insert m p (finmap.insert (sizes_in m p) a s)) p (finmap.insert sizes b t)) (sizes_here m p (finmap.insert (sizes_in m p) a s))
     ∙ insert_again m p (finmap.insert (sizes_in m p) a s) (finmap.insert (finmap.insert (sizes_in m p) a s) b t)
 
 -- files of two partitions
-in_two : (m : FilesMap) (x y : AddedFile) → x.partition ≢ y.partition → with_file (with_file m x) y ≡ finmap.insert (finmap.insert m x.partition (finmap.insert (sizes_in m x.partition) x.name x.size)) y.partition (finmap.insert (sizes_in m y.partition) y.name y.size)
-in_two m x y other =
-    ap (λ (sizes : NumberMap). finmap.insert (finmap.insert m x.partition (finmap.insert (sizes_in m x.partition) x.name x.size)) y.partition (finmap.insert sizes y.name y.size))
-    (sizes_there m x.partition y.partition (finmap.insert (sizes_in m x.partition) x.name x.size) (λ same. other (sym same)))
+in_two : (m : FilesMap) (p q a b : List ℕ) (s t : ℕ) → p ≢ q → grown (grown m p a s) q b t ≡ finmap.insert (finmap.insert m p (finmap.insert (sizes_in m p) a s)) q (finmap.insert (sizes_in m q) b t)
+in_two m p q a b s t other =
+    ap (λ (sizes : SizeMap). finmap.insert (finmap.insert m p (finmap.insert (sizes_in m p) a s)) q (finmap.insert sizes b t))
+    (sizes_there m p q (finmap.insert (sizes_in m p) a s) (λ same. other (sym same)))
 
-commutes : (m : FilesMap) (x y : AddedFile) → IsOtherFile x y → with_file (with_file m x) y ≡ with_file (with_file m y) x
-commutes m x y other = ⊎_elim
-    (λ (same : x.partition ≡ y.partition).
-    ap (λ (p : List ℕ). with_file (with_file m (record { name = x.name; partition = p; size = x.size })) y) same
-    ∙ in_one m y.partition x.name y.name x.size y.size
-    ∙ ap (finmap.insert m y.partition) (insert_other (sizes_in m y.partition) x.name y.name x.size y.size (λ named. other (same, named)))
-    ∙ sym (in_one m y.partition y.name x.name y.size x.size)
-    ∙ ap (λ (p : List ℕ). with_file (with_file m y) (record { name = x.name; partition = p; size = x.size })) (sym same))
-    (λ (differ : x.partition ≢ y.partition).
-    in_two m x y differ
-    ∙ insert_other m x.partition y.partition (finmap.insert (sizes_in m x.partition) x.name x.size) (finmap.insert (sizes_in m y.partition) y.name y.size) differ
-    ∙ sym (in_two m y x (λ same. differ (sym same))))
-    (cases_path x.partition y.partition)
+grown_commutes : (m : FilesMap) (p q a b : List ℕ) (s t : ℕ) → ¬ ((p ≡ q) × (a ≡ b)) → grown (grown m p a s) q b t ≡ grown (grown m q b t) p a s
+grown_commutes m p q a b s t other = ⊎_elim
+    (λ (same : p ≡ q).
+    ap (λ (r : List ℕ). grown (grown m r a s) q b t) same
+    ∙ in_one m q a b s t
+    ∙ ap (finmap.insert m q) (insert_other (sizes_in m q) a b s t (λ named. other (same, named)))
+    ∙ sym (in_one m q b a t s)
+    ∙ ap (λ (r : List ℕ). grown (grown m q b t) r a s) (sym same))
+    (λ (differ : p ≢ q).
+    in_two m p q a b s t differ
+    ∙ insert_other m p q (finmap.insert (sizes_in m p) a s) (finmap.insert (sizes_in m q) b t) differ
+    ∙ sym (in_two m q p b a t s (λ same. differ (sym same))))
+    (cases_path p q)
+
+commutes : (m : FilesMap) (x y : FileAt) → IsOtherFile x y → with_file (with_file m x) y ≡ with_file (with_file m y) x
+commutes m x y other = grown_commutes m x.partition y.partition (name_of x) (name_of y) x.size y.size other
 
 -- lists that have the same files, each once, add the same to a map
-pub files_same : (xs ys : List AddedFile) → AreApart IsOtherFile xs → AreApart IsOtherFile ys → ((z : AddedFile) → Among z xs → Among z ys) → ((z : AddedFile) → Among z ys → Among z xs) → (m : FilesMap) → fold with_file m xs ≡ fold with_file m ys
+pub files_same : (xs ys : List FileAt) → AreApart IsOtherFile xs → AreApart IsOtherFile ys → ((z : FileAt) → Among z xs → Among z ys) → ((z : FileAt) → Among z ys → Among z xs) → (m : FilesMap) → fold with_file m xs ≡ fold with_file m ys
 files_same xs ys all others into back m = fold_same IsOtherFile (λ x other. other (refl, refl)) with_file commutes xs ys all others into back m

@@ -1,5 +1,6 @@
 pub mod NamedLemmas
 pub mod ReadingLemmas
+pub mod SliceLemmas
 pub mod ActionLemmas
 pub mod BeginLemmas
 pub mod LooseLemmas

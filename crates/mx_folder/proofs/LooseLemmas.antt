@@ -1,22 +1,24 @@
 -- A change at a path on which nothing that counts rests.
 use Rattle.std.proofs.Common.{◌≡◌, ◌≢◌, inl, inr, ⊎_elim, ℕ, arith, List, Option, sym, ◌∙◌, ap, subst}
-use Rattle.std.specs.Prelude.{option_and_then}
+use Rattle.std.specs.Prelude.{◌++◌, option_and_then}
 use Rattle.mx_base.specs.Objects.{object_path}
 use Rattle.mx_base.specs.declared.object_name.ObjectName.TheVariants.{Config}
 use Rattle.mx_meta.specs.ShardFiles.{delta_meta_of}
-use Rattle.mx_meta.specs.declared.added.AddedFile.{AddedFile}
+use Rattle.mx_base.specs.declared.entry.Entry.{Entry}
 use Rattle.mx_model.specs.declared.action.Action.{Action}
 use Rattle.mx_model.specs.Listing.{listed_files}
-use Rattle.mx_model.specs.Maps.{files_map}
+use Rattle.mx_files.specs.Files.{files_map, expected_on}
+use Rattle.mx_merge.specs.Merged.{shown_on}
 use Rattle.mx_store.specs.Objects.{Objects}
 use Rattle.mx_store.proofs.Paths.{cases_path}
-use Rattle.mx_folder.specs.Named.{object_at, commit_name, delta_name, log_name, first_bases}
-use Rattle.mx_folder.specs.Actions.{IsCompleted, logged_files}
+use Rattle.mx_folder.specs.Named.{object_at, commit_name, delta_name, log_name, first_base, first_bases}
+use Rattle.mx_folder.specs.Actions.{IsCompleted, actions_upto}
+use Rattle.mx_folder.specs.Slices.{base_entries, logged_entries}
 use Rattle.mx_folder.specs.Folder.{IsObjectAt, IsNeeded, IsSound, IsOpenable, IsValidTable}
 use Rattle.mx_folder.specs.Steps.{DifferAt, IsLoose, MayStand}
 use Rattle.mx_folder.proofs.NamedLemmas.{object_at-same, is_some_same}
 use Rattle.mx_folder.proofs.ReadingLemmas.{available_from, named_bases-same, reads_same}
-use Rattle.mx_folder.proofs.ActionLemmas.{actions_upto-same, logged_files-same}
+use Rattle.mx_folder.proofs.ActionLemmas.{actions_upto-same, base_entries-same, logged_entries-same}
 
 module _ (o n : Objects) (x : List ℕ) (differ : DifferAt x o n) (loose : IsLoose o x) where
   config_same : object_at n Config ≡ object_at o Config
@@ -24,6 +26,9 @@ module _ (o n : Objects) (x : List ℕ) (differ : DifferAt x o n) (loose : IsLoo
 
   bases_same : object_at n first_bases ≡ object_at o first_bases
   bases_same = object_at-same o n first_bases (λ _. differ (object_path first_bases) (λ same. loose.bases (sym same)))
+
+  base_same : object_at n first_base ≡ object_at o first_base
+  base_same = object_at-same o n first_base (λ _. differ (object_path first_base) (λ same. loose.base (sym same)))
 
   commit_same : (at : ℕ) → object_at n (commit_name at) ≡ object_at o (commit_name at)
   commit_same at = object_at-same o n (commit_name at) (λ is. differ (object_path (commit_name at)) (λ same. loose.commits at is (sym same)))
@@ -85,10 +90,11 @@ module _ (o n : Objects) (x : List ℕ) (differ : DifferAt x o n) (loose : IsLoo
   pub loose_keeps : IsValidTable o → MayStand o n x → IsValidTable n
   loose_keeps valid may = record {
     opens = loose_opens valid.opens may;
-    shows = λ p.
+    shows = λ p key.
         let same = actions_upto-same o n p (λ at within. commit_same at) p (omega arith) in
-        ap (λ (done : List Action). files_map (logged_files n done)) same
-        ∙ ap (λ (fs : List AddedFile). files_map fs) (logged_files-same o n log_same p)
-        ∙ valid.shows p
-        ∙ ap (λ (done : List Action). files_map (listed_files done)) (sym same);
+        ap (λ (done : List Action). shown_on key (base_entries n ++ logged_entries n done)) same
+        ∙ ap (λ (es : List Entry). shown_on key (base_entries n ++ es)) (logged_entries-same o n log_same p)
+        ∙ ap (λ (es : List Entry). shown_on key (es ++ logged_entries o (actions_upto o p))) (base_entries-same o n base_same)
+        ∙ valid.shows p key
+        ∙ ap (λ (done : List Action). expected_on key (files_map (listed_files done))) (sym same);
   }

@@ -6,7 +6,7 @@ use Rattle.mx_base.specs.declared.object_name.ObjectName.{ObjectName}
 use Rattle.mx_base.specs.declared.object_name.ObjectName.TheVariants.{Config, Timeline, Metadata, Base, Log}
 use Rattle.mx_base.proofs.ObjectLemmas.{object_path-injective}
 use Rattle.mx_store.specs.Objects.{Objects}
-use Rattle.mx_folder.specs.Named.{commit_name, delta_name, log_name, first_bases, is_hidden, IsHidden}
+use Rattle.mx_folder.specs.Named.{commit_name, delta_name, log_name, first_base, first_bases, is_hidden, IsHidden}
 use Rattle.mx_folder.specs.Actions.{IsCompleted}
 use Rattle.mx_folder.specs.Folder.{IsNeeded}
 use Rattle.mx_folder.specs.Steps.{IsLoose, IsMadeBefore}
@@ -38,6 +38,7 @@ module _ (o : Objects) (t : ℕ) (name : ObjectName) (is : IsObjectName name) (m
   pub pending_loose : IsLoose o (object_path name)
   pending_loose = record {
     config = λ same. as_name Config refl same;
+    base = λ same. as_name first_base refl same;
     bases = λ same. as_name first_bases refl same;
     commits = λ at is_commit same. as_name (commit_name at) is_commit same;
     logs = λ at done same. not_completed at done (as_name (log_name at) (log_named o at done) same);
@@ -67,6 +68,7 @@ module _ (o : Objects) (x : List ℕ) (outer : is_hidden x ≡ false) where
   pub outside_loose : IsLoose o x
   outside_loose = record {
     config = apart Config;
+    base = apart first_base;
     bases = apart first_bases;
     commits = λ at is. apart (commit_name at);
     logs = λ at done. apart (log_name at);

@@ -6,6 +6,7 @@ use Rattle.mx_base.specs.declared.object_name.MetadataActionKind.TheVariants as 
 use Rattle.mx_base.specs.declared.object_name.ObjectName.{ObjectName}
 use Rattle.mx_base.specs.declared.object_name.ObjectName.TheVariants.{Config, Metadata}
 use Rattle.mx_base.specs.declared.part.Part.TheVariants.{Files}
+use Rattle.mx_hfile.specs.Encoding.{encoding}
 use Rattle.mx_meta.specs.ShardFiles.{base_meta_data}
 use Rattle.mx_meta.specs.Views.{Bases}
 use Rattle.mx_props.specs.Config as config
@@ -31,6 +32,6 @@ first_config schema = record { available = Files ∷ []; building = None; schema
 abbrev pub init_changes : List Column → List Change
 init_changes schema =
     Create (object_path first_mark) (codes "{}")
-    ∷ Create (object_path first_base) (codes "{}")
+    ∷ Create (object_path first_base) (encoding [])
     ∷ Create (object_path first_bases) (compact_text (base_meta_data first_meta))
     ∷ Create (object_path Config) (config_text (first_config schema)) ∷ []

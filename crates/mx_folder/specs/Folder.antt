@@ -1,16 +1,18 @@
--- When a folder opens as a table, and when its logs say what its commits list.
+-- When a folder opens as a table, and when its index shows what its commits list.
 use Rattle.std.specs.Prelude.{◌≡◌, ◌⊎◌, ℕ, List, Contains, Some, IsSome, option_and_then}
 use Rattle.mx_base.specs.Objects.{IsObjectName, object_path}
 use Rattle.mx_base.specs.declared.object_name.ObjectName.{ObjectName}
 use Rattle.mx_base.specs.declared.object_name.ObjectName.TheVariants.{Config, Log}
 use Rattle.mx_base.specs.declared.part.Part.{Part}
+use Rattle.mx_files.specs.Files.{files_map, expected_on}
+use Rattle.mx_merge.specs.Merged.{shown_on}
 use Rattle.mx_store.specs.Objects.{Objects, at_path}
 use Rattle.mx_meta.specs.ShardFiles.{delta_meta_of}
 use Rattle.mx_meta.specs.Views.{Bases}
 use Rattle.mx_model.specs.Listing.{listed_files}
-use Rattle.mx_model.specs.Maps.{files_map}
 use Rattle.mx_folder.specs.Named.{object_at, delta_name, IsHidden}
-use Rattle.mx_folder.specs.Actions.{IsCompleted, actions_upto, logged_files}
+use Rattle.mx_folder.specs.Actions.{IsCompleted, actions_upto}
+use Rattle.mx_folder.specs.Slices.{slice_at}
 use Rattle.mx_folder.specs.Reading.{Reads, IsAvailable, IsBaseOf, named_bases}
 
 -- the path is the one of this object, whose bytes are of its kind
@@ -64,7 +66,7 @@ pub record IsOpenable (objects : Objects) : Type 0 where
   pub config : IsSome (object_at objects Config)
   pub sound : (path : List ℕ) → IsSound objects path
 
--- and at every instant the logs of the completed commits up to it say what these commits list
+-- and at every instant the slice shows on each key what is expected of the files that the commits up to it list
 pub record IsValidTable (objects : Objects) : Type 0 where
   pub opens : IsOpenable objects
-  pub shows : (at : ℕ) → files_map (logged_files objects (actions_upto objects at)) ≡ files_map (listed_files (actions_upto objects at))
+  pub shows : (at : ℕ) (key : List ℕ) → shown_on key (slice_at objects at) ≡ expected_on key (files_map (listed_files (actions_upto objects at)))

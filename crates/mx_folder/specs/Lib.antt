@@ -1,5 +1,6 @@
 pub mod Named
 pub mod Actions
+pub mod Slices
 pub mod Completed
 pub mod Reading
 pub mod Folder

@@ -1,10 +1,12 @@
 -- What the bytes of each object are to be.
-use Rattle.std.specs.Prelude.{◌≡◌, ℕ, Bool, true, false, List, [], ◌∷◌, All, Contains, Option, Some, IsSome, IfSome, option_and_then, codes}
+use Rattle.std.specs.Prelude.{◌≡◌, ℕ, Bool, true, false, List, [], ◌∷◌, All, Contains, Option, Some, IsSome, IfSome, option_and_then}
+use Rattle.std.specs.List.{AllByRecursion}
 use Rattle.serde_json.specs.Data.{object, no_members}
 use Rattle.mx_base.specs.DataFiles.{IsDataFileAt}
 use Rattle.mx_base.specs.Objects.{IsObjectName, object_path}
 use Rattle.mx_base.specs.Paths.{data_path}
 use Rattle.mx_base.specs.declared.data_file.DataFile.{DataFile}
+use Rattle.mx_base.specs.declared.entry.Entry.{Entry}
 use Rattle.mx_base.specs.declared.object_name.ActionKind.TheVariants as action
 use Rattle.mx_base.specs.declared.object_name.ActionState.{ActionState}
 use Rattle.mx_base.specs.declared.object_name.ActionState.TheVariants.{Requested, Inflight, Completed}
@@ -15,7 +17,6 @@ use Rattle.mx_base.specs.declared.object_name.ObjectName.{ObjectName}
 use Rattle.mx_base.specs.declared.object_name.ObjectName.TheVariants.{Config, Timeline, Metadata, Base, Log}
 use Rattle.mx_base.specs.declared.part.Part.{Part}
 use Rattle.mx_store.specs.Objects.{Objects}
-use Rattle.mx_meta.specs.AddedText.{added_of}
 use Rattle.mx_meta.specs.CommitText.{commit_meta_of}
 use Rattle.mx_meta.specs.Fields.{object_of}
 use Rattle.mx_meta.specs.PathLists.{path_list_of}
@@ -25,9 +26,11 @@ use Rattle.mx_meta.specs.declared.commit_meta.CommitMeta.{CommitMeta}
 use Rattle.mx_meta.specs.declared.commit_meta.PartitionStats.{PartitionStats}
 use Rattle.mx_meta.specs.declared.commit_meta.WriteStat.{WriteStat}
 use Rattle.mx_meta.specs.declared.path_list.PathList.{PathList}
+use Rattle.mx_merge.specs.Merged.{IsRead}
 use Rattle.mx_props.specs.Config as config
 use Rattle.mx_props.specs.Config.{IsConfig, config_text}
 use Rattle.mx_folder.specs.Named.{object_at, first_base, first_bases}
+use Rattle.mx_folder.specs.Slices.{base_of, log_of}
 
 -- a JSON object without fields
 abbrev pub IsEmptyObject : List ℕ → Type 0
@@ -60,6 +63,18 @@ ReadsAsDelta at true bytes = (logs : List (List ℕ)) × (delta_meta_of bytes �
 abbrev pub ReadsAsFirst : Bool → List ℕ → Type 0
 ReadsAsFirst false bytes = IsEmptyObject bytes
 ReadsAsFirst true bytes = base_meta_of bytes ≡ Some (record { bases = object_path first_base ∷ []; upto = 0 })
+
+-- each entry has a payload
+abbrev pub SpellPayloads : List Entry → Type 0
+SpellPayloads entries = AllByRecursion (λ (e : Entry). IsRead e.value) entries
+
+-- the entries of a base
+abbrev pub ReadsAsBase : List ℕ → Type 0
+ReadsAsBase bytes = (entries : List Entry) × (base_of bytes ≡ Some entries) × SpellPayloads entries
+
+-- the entries of a log of the instant
+abbrev pub ReadsAsLog : ℕ → List ℕ → Type 0
+ReadsAsLog at bytes = (entries : List Entry) × (log_of at bytes ≡ Some entries) × SpellPayloads entries
 
 -- what the config says of the parts that can be read
 abbrev pub IsAvailable : Objects → Part → Type 0
@@ -96,6 +111,6 @@ Reads objects (Metadata at metadata.DeltaCommit completed) bytes = ReadsAsDelta 
 Reads objects (Metadata at metadata.Indexing completed) bytes = (at ≡ 0) × ReadsAsFirst completed bytes
 Reads objects (Metadata at metadata.Compaction completed) bytes = ⊥
 Reads objects (Metadata at metadata.Clean completed) bytes = ⊥
-Reads objects (Base part shard upto base.Indexing) bytes = (upto ≡ 0) × (IsAvailable objects part → bytes ≡ codes "{}")
+Reads objects (Base part shard upto base.Indexing) bytes = (upto ≡ 0) × (IsAvailable objects part → ReadsAsBase bytes)
 Reads objects (Base part shard upto base.Compaction) bytes = ⊥
-Reads objects (Log part shard at) bytes = IsAvailable objects part → IsSome (added_of bytes)
+Reads objects (Log part shard at) bytes = IsAvailable objects part → ReadsAsLog at bytes

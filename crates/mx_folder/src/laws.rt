@@ -7,7 +7,8 @@ ghost use Rattle.mx_schema.specs.declared.column.Column.{Column};
 ghost use Rattle.mx_store.specs.Objects.{Objects, at_path, objects_of};
 ghost use Rattle.mx_folder.specs.Begin.{init_changes};
 ghost use Rattle.mx_folder.specs.Named.{commit_name, is_hidden};
-ghost use Rattle.mx_folder.specs.Actions.{IsCompleted, action_at, actions_upto, added_at, logged_files};
+ghost use Rattle.mx_folder.specs.Actions.{IsCompleted, action_at, actions_upto};
+ghost use Rattle.mx_folder.specs.Slices.{entries_at, logged_entries};
 ghost use Rattle.mx_folder.specs.Completed.{completed_upto};
 ghost use Rattle.mx_folder.specs.Folder.{IsValidTable};
 ghost use Rattle.mx_folder.specs.Steps.{DifferAt, IsLoose, MayStand, IsMadeBefore, MayComplete};
@@ -40,5 +41,5 @@ pub fn a_new_table_is_valid()
 
 /// The logs of the completed commits up to an instant are those of the commits that count, where each completed commit reads.
 pub fn completed_commits_count()
-    ensures { (objects : Objects) → ((at : ℕ) → IsCompleted objects at → IsSome (action_at objects at)) → (at : ℕ) → flat_map (added_at objects) (completed_upto objects at) ≡ logged_files objects (actions_upto objects at) }
+    ensures { (objects : Objects) → ((at : ℕ) → IsCompleted objects at → IsSome (action_at objects at)) → (at : ℕ) → flat_map (entries_at objects) (completed_upto objects at) ≡ logged_entries objects (actions_upto objects at) }
 {}

@@ -17,7 +17,7 @@ use Rattle.std.proofs.lemmas.List.Elements.{All-head, All-tail}
 use Rattle.std.proofs.lemmas.List.Sums.{sum_by-append, sum_by-cons}
 use Rattle.std.proofs.lemmas.Map.Keys.{sorted_tail, below_from_sorted}
 use Rattle.mx_base.specs.Paths.{group_name}
-use Rattle.mx_meta.specs.declared.added.AddedFile.{AddedFile}
+use Rattle.mx_base.specs.declared.entry.FileAt.{FileAt}
 use Rattle.mx_meta.specs.declared.commit_meta.PartitionStats.{PartitionStats}
 use Rattle.mx_meta.specs.declared.commit_meta.WriteStat.{WriteStat}
 use Rattle.mx_model.specs.Listing.{file_of, files_of, listed_files}
@@ -155,7 +155,7 @@ counts_sum (e ∷ entries) at sorted beyond =
 
 -- ---- over the commits
 
-abbrev files_in : ℕ → PartitionStats → List AddedFile
+abbrev files_in : ℕ → PartitionStats → List FileAt
 files_in at p = map (file_of at p.partition) p.stats
 
 abbrev groups_of_stats : PartitionStats → List (List ℕ)

@@ -3,6 +3,7 @@ use Rattle.std.proofs.Common.{◌≡◌, ◌≢◌, ◌⊎◌, inl, inr, ℕ, �
 use Rattle.std.specs.Prelude.{IfOk, IfSome, Result, Ok, Err}
 use Rattle.mx_ask.specs.declared.ask.Ask.{Ask}
 use Rattle.mx_ask.specs.declared.ask.FileText.{FileText}
+use Rattle.mx_ask.specs.declared.ask.Question.{Question}
 use Rattle.mx_ask.specs.declared.reply.Refusal.{Refusal}
 use Rattle.mx_ask.specs.declared.reply.Reply.{Reply}
 use Rattle.mx_store.specs.Calls.{Counts}
@@ -12,7 +13,7 @@ use Rattle.mx_store.specs.declared.store.StoreError.{StoreError}
 use Rattle.mx_store.specs.declared.store.StoreError.TheVariants as store
 use Rattle.mx_store.proofs.Longer.{EachSince-now}
 use Rattle.mx_folder.specs.Folder.{IsValidTable}
-use Rattle.mx_lookup.specs.Looking.{AreFiles, IsLookedUp}
+use Rattle.mx_lookup.specs.Looking.{IsAnswer, IsLookedUp}
 use Rattle.mx_world.specs.declared.error.ChangeError.TheVariants as changes
 use Rattle.mx_world.specs.declared.mirror.Mirror.{Mirror}
 use Rattle.mx_world.specs.State.{Holds, Settles, Stands, Standing}
@@ -20,7 +21,7 @@ use Rattle.mx_writer.specs.declared.committing.CommitError.{CommitError}
 use Rattle.mx_writer.specs.declared.committing.CommitError.TheVariants.{TooMany, DuplicateGroup, InstantsUsedUp, Stopped}
 use Rattle.mx_writer.specs.Commit.{Commits, CountsCommit}
 use Rattle.mx_hub.specs.declared.answered.Answered.{Answered}
-use Rattle.mx_hub.specs.Answers.{AnswersFiles, AnswersSettled, CommitsFiles, CountsRefusal, CountsReply, IsAnswered, IsRefusedFor, IsCounted, IsReplyTo, paths_at, ShowsFiles, WasTable, commit_refusal, look_reply, store_refusal}
+use Rattle.mx_hub.specs.Answers.{AnswersQuestion, AnswersSettled, CommitsFiles, CountsRefusal, CountsReply, IsAnswered, IsRefusedFor, IsCounted, IsReplyTo, paths_at, IsShown, WasTable, commit_refusal, look_reply, store_refusal}
 
 -- ---- the store's faults
 
@@ -37,10 +38,11 @@ counts_commit before now (Stopped changes.NoMemory) is = is
 counts_commit before now (Stopped (changes.Changed path)) is = is
 counts_commit before now (Stopped (changes.InDoubt path)) is = is
 
-pub counts_files : (before now : ℕ) (reply : Reply) → AreFiles reply → now ≡ before → CountsReply before now reply
-counts_files before now (Reply.Files at files) are is = is
-counts_files before now (Reply.Committed at files) are is = absurd are
-counts_files before now (Reply.Refused refusal) are is = absurd are
+pub counts_answer : (before now : ℕ) (reply : Reply) → IsAnswer reply → now ≡ before → CountsReply before now reply
+counts_answer before now (Reply.Files at files) kind is = is
+counts_answer before now (Reply.Partitions at partitions) kind is = is
+counts_answer before now (Reply.Committed at files) kind is = absurd kind
+counts_answer before now (Reply.Refused refusal) kind is = absurd kind
 
 -- ---- what is known where no change is in doubt
 
@@ -96,13 +98,13 @@ module _ (files : List FileText) (before after : Standing) where
 
 -- ---- a look-up
 
-shown : (opening : Option (List Change)) (o : Objects) (partition : List ℕ) (asked : Option ℕ) (reply : Reply) (reads_before reads_after : Option (List (List ℕ))) → IsLookedUp o partition asked reply reads_before reads_after → (WasTable opening → IsValidTable o) → WasTable opening → ShowsFiles o partition asked reply
-shown opening o partition asked reply reads_before reads_after is valid was = record { at = is.at; pinned = is.pinned; retained = is.retained (valid was); answer = is.answer (valid was) }
+shown : (opening : Option (List Change)) (o : Objects) (question : Question) (asked : Option ℕ) (reply : Reply) (reads_before reads_after : Option (List (List ℕ))) → IsLookedUp o question asked reply reads_before reads_after → (WasTable opening → IsValidTable o) → WasTable opening → IsShown o question asked reply
+shown opening o question asked reply reads_before reads_after is valid was = record { at = is.at; pinned = is.pinned; retained = is.retained (valid was); answer = is.answer (valid was) }
 
-pub shows : (opening journal : Option (List Change)) (partition : List ℕ) (asked : Option ℕ) (reply : Reply) (reads_before reads_after : Option (List (List ℕ))) → IfSome journal (λ (j : List Change). WasTable opening → IsValidTable (objects_of j))
-    → IfSome journal (λ (j : List Change). IsLookedUp (objects_of j) partition asked reply reads_before reads_after) → IfSome journal (λ (j : List Change). WasTable opening → ShowsFiles (objects_of j) partition asked reply)
-shows opening None partition asked reply reads_before reads_after valid is = tt
-shows opening (Some j) partition asked reply reads_before reads_after valid is = shown opening (objects_of j) partition asked reply reads_before reads_after is valid
+pub shows : (opening journal : Option (List Change)) (question : Question) (asked : Option ℕ) (reply : Reply) (reads_before reads_after : Option (List (List ℕ))) → IfSome journal (λ (j : List Change). WasTable opening → IsValidTable (objects_of j))
+    → IfSome journal (λ (j : List Change). IsLookedUp (objects_of j) question asked reply reads_before reads_after) → IfSome journal (λ (j : List Change). WasTable opening → IsShown (objects_of j) question asked reply)
+shows opening None question asked reply reads_before reads_after valid is = tt
+shows opening (Some j) question asked reply reads_before reads_after valid is = shown opening (objects_of j) question asked reply reads_before reads_after is valid
 
 -- ---- an ask
 
@@ -123,12 +125,12 @@ held_up opening ask before after a error refusal same is refused = inr (
 
 -- ---- a look-up that was made
 
-pub looked : (opening : Option (List Change)) (partition : List ℕ) (asked : Option ℕ) (before after : Standing) (reply : Reply) (reads_before reads_after : Option (List (List ℕ))) → after ≡ before
-    → IfSome before.journal (λ (j : List Change). WasTable opening → IsValidTable (objects_of j)) → IfSome before.journal (λ (j : List Change). IsLookedUp (objects_of j) partition asked reply reads_before reads_after)
-    → AnswersFiles opening partition asked before after reply
-looked opening partition asked before after reply reads_before reads_after same valid is = record {
+pub looked : (opening : Option (List Change)) (question : Question) (asked : Option ℕ) (before after : Standing) (reply : Reply) (reads_before reads_after : Option (List (List ℕ))) → after ≡ before
+    → IfSome before.journal (λ (j : List Change). WasTable opening → IsValidTable (objects_of j)) → IfSome before.journal (λ (j : List Change). IsLookedUp (objects_of j) question asked reply reads_before reads_after)
+    → AnswersQuestion opening question asked before after reply
+looked opening question asked before after reply reads_before reads_after same valid is = record {
   same = same;
   found = Ok reply;
-  shows = shows opening before.journal partition asked reply reads_before reads_after valid is;
+  shows = shows opening before.journal question asked reply reads_before reads_after valid is;
   reply_is = refl;
 }

@@ -3,11 +3,12 @@ use Rattle.std.specs.Prelude.{◌≡◌, ◌⊎◌, ℕ, ◌+◌, ◌≤◌, Lis
 use Rattle.mx_ask.specs.declared.ask.Ask.{Ask}
 use Rattle.mx_ask.specs.declared.ask.AskKind.{AskKind}
 use Rattle.mx_ask.specs.declared.ask.FileText.{FileText}
+use Rattle.mx_ask.specs.declared.ask.Question.{Question}
 use Rattle.mx_ask.specs.declared.reply.Refusal.{Refusal}
 use Rattle.mx_ask.specs.declared.reply.Reply.{Reply}
-use Rattle.mx_model.specs.Answer.{files_answer}
+use Rattle.mx_model.specs.Answer.{answer as model_answer}
 use Rattle.mx_model.specs.Listing.{listed_files}
-use Rattle.mx_model.specs.Maps.{files_map}
+use Rattle.mx_files.specs.Files.{files_map}
 use Rattle.mx_store.specs.declared.change.Change.{Change}
 use Rattle.mx_store.specs.declared.store.StoreError.{StoreError}
 use Rattle.mx_store.specs.declared.store.StoreError.TheVariants as store
@@ -67,12 +68,12 @@ AnswersCommits files before after reply = AnswersCommit files before after reply
 
 -- ---- a look-up
 
--- the files of the partition as the completed commits up to an instant list them: the one that is asked for, else the newest
-pub record ShowsFiles (objects : Objects) (partition : List ℕ) (asked : Option ℕ) (reply : Reply) : Type 0 where
+-- what the files answer that the completed commits up to an instant list: the one that is asked for, else the newest
+pub record IsShown (objects : Objects) (question : Question) (asked : Option ℕ) (reply : Reply) : Type 0 where
   pub at : ℕ
   pub pinned : IsPinned objects asked at
   pub retained : floor objects ≤ at
-  pub answer : reply ≡ files_answer partition (files_map (listed_files (actions_upto objects at))) at
+  pub answer : reply ≡ model_answer question (files_map (listed_files (actions_upto objects at))) at
 
 -- the opening was a valid table, where it is told
 abbrev pub WasTable : Option (List Change) → Type 0
@@ -87,11 +88,11 @@ abbrev pub look_reply : Result Reply StoreError → Reply
 look_reply (Ok reply) = reply
 look_reply (Err error) = Reply.Refused (store_refusal error)
 
--- nothing is changed, and the reply shows the files, or tells why it does not
-pub record AnswersFiles (opening : Option (List Change)) (partition : List ℕ) (asked : Option ℕ) (before after : Standing) (reply : Reply) : Type 0 where
+-- nothing is changed, and the reply answers the question, or tells why it does not
+pub record AnswersQuestion (opening : Option (List Change)) (question : Question) (asked : Option ℕ) (before after : Standing) (reply : Reply) : Type 0 where
   pub same : after ≡ before
   pub found : Result Reply StoreError
-  pub shows : IfOk found (λ (shown : Reply). IfSome before.journal (λ (j : List Change). WasTable opening → ShowsFiles (objects_of j) partition asked shown))
+  pub shows : IfOk found (λ (shown : Reply). IfSome before.journal (λ (j : List Change). WasTable opening → IsShown (objects_of j) question asked shown))
   pub reply_is : reply ≡ look_reply found
 
 -- ---- an ask
@@ -99,7 +100,7 @@ pub record AnswersFiles (opening : Option (List Change)) (partition : List ℕ) 
 -- the reply to an ask, where no change is in doubt
 abbrev pub AnswersKind : Option (List Change) → AskKind → Standing → Standing → Reply → Type 0
 AnswersKind opening (AskKind.Commit files) before after reply = AnswersCommits files before after reply
-AnswersKind opening (AskKind.Files partition at) before after reply = AnswersFiles opening partition at before after reply
+AnswersKind opening (AskKind.LookUp question at) before after reply = AnswersQuestion opening question at before after reply
 
 -- of whatever session it is
 abbrev pub IsReplyTo : Option (List Change) → Ask → Standing → Standing → Reply → Type 0
@@ -144,6 +145,7 @@ CountsRefusal before now (Refusal.Expired floor) = now ≡ before
 abbrev pub CountsReply : ℕ → ℕ → Reply → Type 0
 CountsReply before now (Reply.Committed at files) = now ≡ before
 CountsReply before now (Reply.Files at files) = now ≡ before
+CountsReply before now (Reply.Partitions at partitions) = now ≡ before
 CountsReply before now (Reply.Refused refusal) = CountsRefusal before now refusal
 
 -- ---- for private clauses

@@ -1,13 +1,13 @@
 ghost use Rattle.std.specs.Prelude.{◌≡◌, ◌+◌, ◌<◌, ◌^◌, IfOk, None};
 ghost use Rattle.mx_world.specs.State.{Stands, standing};
 ghost use Rattle.mx_hub.specs.Answers as spec;
-ghost use Rattle.mx_hub.specs.Answers.{AnswersCommits, AnswersFiles, AnswersSettled, CommitsFiles, CountsEnded, CountsReply, IsAnswered, IsRefusedFor, IsReplyTo, paths_at};
+ghost use Rattle.mx_hub.specs.Answers.{AnswersCommits, AnswersQuestion, AnswersSettled, CommitsFiles, CountsEnded, CountsReply, IsAnswered, IsRefusedFor, IsReplyTo, paths_at};
 
 use crate::answered::Answered;
-use mx_ask::{Ask, AskKind, FileText, Refusal, Reply};
-use mx_base::{Instant, Partition, Path};
+use mx_ask::{Ask, AskKind, FileText, Question, Refusal, Reply};
+use mx_base::{Instant, Path};
 use mx_lists::Listed;
-use mx_lookup::files;
+use mx_lookup::look_up;
 use mx_store::{Named, Store, StoreError};
 use mx_world::{ChangeError, World};
 use mx_writer::{CommitError, commit};
@@ -80,7 +80,7 @@ fn reply_to<S: Store, N: Named>(alloc: Global, table: &mut World<S, N>, ask: &As
 {
     match &ask.kind {
         AskKind::Commit { files } => commit_replied(alloc, table, files.as_slice()),
-        AskKind::Files { partition, at } => files_replied(alloc, table, partition, *at),
+        AskKind::LookUp { question, at } => question_replied(alloc, table, question, *at),
     }
 }
 
@@ -136,19 +136,19 @@ fn paths_of(alloc: Global, at: Instant, files: &[FileText]) -> Result<Listed<Pat
     Ok(paths)
 }
 
-fn files_replied<S: Store, N: Named>(
+fn question_replied<S: Store, N: Named>(
     alloc: Global,
     table: &mut World<S, N>,
-    partition: &Partition,
+    question: &Question,
     at: Option<Instant>,
 ) -> Reply
     requires sure { table.old.doubt ≡ None }
-    ensures reply { AnswersFiles N.opening partition.now at (standing S.journal table.old) (standing S.journal table.new) result }
+    ensures reply { AnswersQuestion N.opening question.now at (standing S.journal table.old) (standing S.journal table.new) result }
     ensures faults { CountsReply (S.faults table.old.store) (S.faults table.new.store) result }
 {
     // The call tells that the folder is a valid table.
     let _seq = table.seq();
-    match files(alloc, table, partition, at) {
+    match look_up(alloc, table, question, at) {
         Ok(reply) => reply,
         Err(error) => Reply::Refused {
             refusal: store_refusal(error),

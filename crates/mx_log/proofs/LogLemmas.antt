@@ -76,7 +76,7 @@ log_takes bytes at es fits e =
     subst (λ (z : ℕ × List Entry). IsLogOf bytes z.0 z.1) (ok_is made (at, es) f.2)
     (record { moment = t.1; entries = file.entries; len = subst (λ (x : List ℕ). length x ≤ 268_435_456) file.spelled file.len; spelled = spelled })
 
-log_again : (at : ℕ) (es : List Entry) → IsMoment at → AreEntries es → length (encoding es) ≤ 268_435_456 → log_in (log_encoding at es) ≡ Ok (at, es)
+pub log_again : (at : ℕ) (es : List Entry) → IsMoment at → AreEntries es → length (encoding es) ≤ 268_435_456 → log_in (log_encoding at es) ≡ Ok (at, es)
 unfolding log_in
 log_again at es m good le = rw (header_again at (encoding es) m (omega (arith, le)), file_again es good le) refl
 

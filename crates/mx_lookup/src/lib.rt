@@ -1,12 +1,15 @@
-//! Look-ups: answered from the logs of the completed commits, and from nothing else.
+//! Look-ups: answered from the index, which is the first base and the logs of the completed commits, and from nothing
+//! else.
 //!
 //! | call | contract |
 //! |---|---|
-//! | `files` | the names and sizes of a partition's files, as the commits up to an instant list them (`specs/Looking.antt`, `IsLookedUp`) |
+//! | `look_up` | the reply that the files give which the commits up to an instant list (`specs/Looking.antt`, `IsLookedUp`) |
 #![tactic(auto)]
 
 mod looking;
+mod slice;
 #[cfg(test)]
 mod tests;
+mod told;
 
-pub use looking::files;
+pub use looking::look_up;

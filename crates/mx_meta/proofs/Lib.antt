@@ -1,4 +1,3 @@
-pub mod AddedLemmas
 pub mod CommitLemmas
 pub mod JsonLemmas
 pub mod FieldLemmas

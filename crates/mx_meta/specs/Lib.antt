@@ -4,7 +4,6 @@ pub mod Fields
 pub mod Walk
 pub mod Views
 pub mod CommitText
-pub mod AddedText
 pub mod PathLists
 pub mod Plans
 pub mod Places

@@ -7,13 +7,11 @@
 //! | `IndexPlan`, `CompactPlan` | likewise (`specs/Plans.antt`) |
 //! | `DeltaMeta`, `BaseMeta` | likewise (`specs/ShardFiles.antt`) |
 //! | `new` of those with a rule | the object, exactly where its rule holds |
-//! | `AddedLog::print`, `read` | the files that a commit adds, exact both ways (`specs/AddedText.antt`) |
 //!
 //! Which field a refusal names: `specs/Fields.antt`. Invariants: a `RollbackPlan` has an instant other than 0, and
 //! lists that have an order stand in it.
 #![tactic(auto)]
 
-mod added;
 mod base_meta;
 mod checking;
 mod commit_meta;
@@ -38,7 +36,6 @@ mod stats;
 #[cfg(test)]
 mod tests;
 
-pub use added::{AddedFile, AddedLog};
 pub use base_meta::BaseMeta;
 pub use commit_meta::{CommitMeta, PartitionStats, WriteStat};
 pub use compact_plan::CompactPlan;

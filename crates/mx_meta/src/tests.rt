@@ -1,6 +1,6 @@
 use super::*;
 use mx_base::{FileId, Instant, Partition, Path};
-use mx_lists::{Listed, Text};
+use mx_lists::Listed;
 use std::alloc::{AllocError, Global};
 use std::test::Fail;
 
@@ -43,64 +43,6 @@ fn a_commit_is_printed_with_its_partitions_and_files(rt: HostRuntime) -> Result<
     Ok(())
 }
 
-#[test]
-fn an_added_log_is_one_line_and_reads_back(rt: HostRuntime) -> Result<(), Fail> {
-    let alloc = rt.alloc();
-    let cases: [(&[(&str, &str, u64)], &str); 3] = [
-        (&[], "{\"added\":[]}"),
-        (
-            &[("hello", "2024-01-01", 5)],
-            "{\"added\":[{\"name\":\"hello\",\"partition\":\"2024-01-01\",\"size\":5}]}",
-        ),
-        (
-            &[("a\"\u{e9}", "b", 0), ("", "a", u64::MAX)],
-            "{\"added\":[{\"name\":\"a\\\"\u{e9}\",\"partition\":\"b\",\"size\":0},{\"name\":\"\",\"partition\":\"a\",\"size\":18446744073709551615}]}",
-        ),
-    ];
-    for (files, line) in cases {
-        let log = log_of(alloc, files)?.expect(&rt, "partitions");
-        assert_eq!(rt; log.print(alloc)?.as_slice(), line.as_bytes());
-        let read = AddedLog::read(alloc, line.as_bytes())?.expect(&rt, "an added log");
-        assert_eq!(rt; read.print(alloc)?.as_slice(), line.as_bytes());
-    }
-    Ok(())
-}
-
-#[test]
-fn an_added_log_is_read_in_any_spacing_and_order_of_names(rt: HostRuntime) -> Result<(), Fail> {
-    let alloc = rt.alloc();
-    let line = b" {\"added\" : [\n{\"size\":1, \"partition\":\"\\u0061\", \"name\":\"b\"} ] } ";
-    let read = AddedLog::read(alloc, line)?.expect(&rt, "an added log");
-    let shown = b"{\"added\":[{\"name\":\"b\",\"partition\":\"a\",\"size\":1}]}";
-    assert_eq!(rt; read.print(alloc)?.as_slice(), shown.as_slice());
-    Ok(())
-}
-
-#[test]
-fn what_has_other_fields_or_no_partition_is_no_added_log(rt: HostRuntime) -> Result<(), Fail> {
-    let alloc = rt.alloc();
-    let lines: [&[u8]; 14] = [
-        b"",
-        b"[]",
-        b"{}",
-        b"{\"added\":{}}",
-        b"{\"added\":[],\"more\":1}",
-        b"{\"Added\":[]}",
-        b"{\"added\":[1]}",
-        b"{\"added\":[{\"name\":\"b\",\"partition\":\"a\"}]}",
-        b"{\"added\":[{\"name\":\"b\",\"partition\":\"a\",\"size\":1,\"x\":1}]}",
-        b"{\"added\":[{\"name\":1,\"partition\":\"a\",\"size\":1}]}",
-        b"{\"added\":[{\"name\":\"b\",\"partition\":\"a/b\",\"size\":1}]}",
-        b"{\"added\":[{\"name\":\"b\",\"partition\":\"a\",\"size\":-1}]}",
-        b"{\"added\":[{\"name\":\"b\",\"partition\":\"a\",\"size\":18446744073709551616}]}",
-        b"{\"added\":[{\"name\":\"\xff\",\"partition\":\"a\",\"size\":1}]}",
-    ];
-    for (at, line) in lines.iter().enumerate() {
-        assert!(rt; AddedLog::read(alloc, line)?.is_none(), "line {at}");
-    }
-    Ok(())
-}
-
 fn stats_of(
     alloc: Global,
     partition: &str,
@@ -125,21 +67,4 @@ fn stats_of(
         })?;
     }
     Ok(Some(PartitionStats { partition, stats }))
-}
-
-fn log_of(alloc: Global, files: &[(&str, &str, u64)]) -> Result<Option<AddedLog>, AllocError> {
-    let mut added = Listed::new(alloc);
-    for file in files {
-        let (name, partition, size) = *file;
-        let Ok(partition) = Partition::parse(alloc, partition) else {
-            return Ok(None);
-        };
-        let name = Text::from_str(alloc, name)?;
-        added.push(AddedFile {
-            name,
-            partition,
-            size,
-        })?;
-    }
-    Ok(Some(AddedLog { added }))
 }

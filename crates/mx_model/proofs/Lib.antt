@@ -1,3 +1,3 @@
-pub mod NumberLemmas
+pub mod SizeLemmas
 pub mod MapLemmas
 pub mod TreeLemmas

@@ -8,10 +8,10 @@ use Rattle.std.specs.Ordering.{nat_cmp}
 use Rattle.std.specs.Cmp.Lexicographic.{slice_cmp}
 use Rattle.std.specs.FinMap as finmap
 use Rattle.std.proofs.lemmas.Map.Steps.{set_value_same}
-use Rattle.mx_meta.specs.declared.added.AddedFile.{AddedFile}
-use Rattle.mx_model.specs.Maps.{NumberMap, FilesMap, sizes_in, with_file}
+use Rattle.mx_merge.specs.Shown.{SizeMap}
+use Rattle.mx_files.specs.Files.{FilesMap, sizes_in}
 use Rattle.mx_model.specs.Answer.{file_sizes}
-use Rattle.mx_model.proofs.NumberLemmas.{get-tree, tree-insert}
+use Rattle.mx_model.proofs.SizeLemmas.{get-tree, tree-insert}
 
 pub on_ok : {X E A B : Type 0} (r : Result X E) → (A → B) → OnOk r A → OnOk r B
 on_ok (Ok x) f h = f h
@@ -21,29 +21,29 @@ pub on_err : {X E A B : Type 0} (r : Result X E) → (A → B) → OnErr r A →
 on_err (Ok x) f h = tt
 on_err (Err e) f h = f h
 
-module _ (m : BTreeMap (List ℕ) NumberMap) (files : FilesMap) (view_is : finmap.from_entries {R = slice_cmp nat_cmp} m.entries ≡ files) where
-  pub sizes_in-tree : (partition : List ℕ) (found : Option NumberMap) → found ≡ tree.get (slice_cmp nat_cmp) m partition → sizes_in files partition ≡ unwrap_or found finmap.empty
+module _ (m : BTreeMap (List ℕ) SizeMap) (files : FilesMap) (view_is : finmap.from_entries {R = slice_cmp nat_cmp} m.entries ≡ files) where
+  pub sizes_in-tree : (partition : List ℕ) (found : Option SizeMap) → found ≡ tree.get (slice_cmp nat_cmp) m partition → sizes_in files partition ≡ unwrap_or found finmap.empty
   sizes_in-tree partition found is =
       ap (λ (f : FilesMap). sizes_in f partition) (sym view_is)
-      ∙ ap (λ (o : Option NumberMap). unwrap_or o finmap.empty) (get-tree m partition ∙ sym is)
+      ∙ ap (λ (o : Option SizeMap). unwrap_or o finmap.empty) (get-tree m partition ∙ sym is)
 
   -- the sizes that a partition had, and one more file
-  pub with_file-tree : (n : BTreeMap (List ℕ) NumberMap) (file : AddedFile) (found : Option NumberMap) (sizes : NumberMap) →
-      found ≡ tree.get (slice_cmp nat_cmp) m file.partition → sizes ≡ finmap.insert (unwrap_or found finmap.empty) file.name file.size →
-      tree.Updates (slice_cmp nat_cmp) m n file.partition (Some sizes) → finmap.from_entries {R = slice_cmp nat_cmp} n.entries ≡ with_file files file
-  with_file-tree n file found sizes is grown updates =
-      tree-insert m n file.partition sizes updates
-      ∙ ap (λ (f : FilesMap). finmap.insert f file.partition sizes) view_is
-      ∙ ap (λ (s : NumberMap). finmap.insert files file.partition s)
-      (grown ∙ ap (λ (s : NumberMap). finmap.insert s file.name file.size) (sym (sizes_in-tree file.partition found is)))
+  pub grown-tree : (n : BTreeMap (List ℕ) SizeMap) (partition name : List ℕ) (size : ℕ) (found : Option SizeMap) (sizes : SizeMap) →
+      found ≡ tree.get (slice_cmp nat_cmp) m partition → sizes ≡ finmap.insert (unwrap_or found finmap.empty) name size →
+      tree.Updates (slice_cmp nat_cmp) m n partition (Some sizes) → finmap.from_entries {R = slice_cmp nat_cmp} n.entries ≡ finmap.insert files partition (finmap.insert (sizes_in files partition) name size)
+  grown-tree n partition name size found sizes is grown updates =
+      tree-insert m n partition sizes updates
+      ∙ ap (λ (f : FilesMap). finmap.insert f partition sizes) view_is
+      ∙ ap (λ (s : SizeMap). finmap.insert files partition s)
+      (grown ∙ ap (λ (s : SizeMap). finmap.insert s name size) (sym (sizes_in-tree partition found is)))
 
   -- the sizes that a partition had, written back
-  pub same_tree : (n : BTreeMap (List ℕ) NumberMap) (partition : List ℕ) (had sizes : NumberMap) → Some had ≡ tree.get (slice_cmp nat_cmp) m partition → sizes ≡ had →
+  pub same_tree : (n : BTreeMap (List ℕ) SizeMap) (partition : List ℕ) (had sizes : SizeMap) → Some had ≡ tree.get (slice_cmp nat_cmp) m partition → sizes ≡ had →
       n.entries ≡ set_value (tree.is_at (slice_cmp nat_cmp partition)) m.entries sizes → finmap.from_entries {R = slice_cmp nat_cmp} n.entries ≡ files
   same_tree n partition had sizes is unchanged writes =
       let test = tree.is_at (slice_cmp nat_cmp partition) in
-      ap (λ (es : List (List ℕ × NumberMap)). finmap.from_entries {R = slice_cmp nat_cmp} es)
-      (writes ∙ ap (λ (s : NumberMap). set_value test m.entries s) unchanged ∙ set_value_same test m.entries had (sym is))
+      ap (λ (es : List (List ℕ × SizeMap)). finmap.from_entries {R = slice_cmp nat_cmp} es)
+      (writes ∙ ap (λ (s : SizeMap). set_value test m.entries s) unchanged ∙ set_value_same test m.entries had (sym is))
       ∙ view_is
 
 nothing : {A : Type 0} (xs : List A) → length xs ≡ 0 → xs ≡ []

@@ -11,8 +11,7 @@
 //! |---|---|
 //! | `rebuild` | the maps of the actions at most at an instant |
 //! | `answer` | the reply that the maps give to a question |
-//! | `Maps::add`, `file_sizes` | one more file, and no change where memory runs out; names and sizes of a partition |
-//! | `Numbers` | numbers by names, as a finite map; `file_sizes` lists them in byte order of names |
+//! | `Maps::add`, `file_sizes`, `partitions` | one more file, and no change where memory runs out; names and sizes of a partition; the partitions |
 //! | `sizes_are_of_own_files` | a law: the sizes of a partition come from its own files alone |
 //! | `all_count_at_newest` | a law: at the newest instant every action counts |
 #![tactic(auto)]
@@ -20,13 +19,12 @@
 mod action;
 mod laws;
 mod maps;
-mod numbers;
 mod program;
+mod sizes;
 #[cfg(test)]
 mod tests;
 
 pub use action::Action;
 pub use laws::{all_count_at_newest, sizes_are_of_own_files};
 pub use maps::Maps;
-pub use numbers::Numbers;
 pub use program::{answer, rebuild};

@@ -1,13 +1,14 @@
 ghost use Rattle.std.specs.Prelude.{◌≡◌, ℕ, IfOk, OnOk, fold, map, nat_le, if◌then◌else◌};
 ghost use Rattle.mx_model.specs.Timeline.{actions_upto};
 ghost use Rattle.mx_model.specs.Listing.{file_of, files_of};
-ghost use Rattle.mx_model.specs.Maps.{with_file, maps_of};
-ghost use Rattle.mx_model.specs.Answer.{files_answer};
+ghost use Rattle.mx_files.specs.Files.{with_file};
+ghost use Rattle.mx_model.specs.Maps.{maps_of};
+ghost use Rattle.mx_model.specs.Answer as spec;
 
 use crate::{Action, Maps};
-use mx_ask::Reply;
-use mx_base::{Instant, Partition, data_file_name};
-use mx_meta::{AddedFile, PartitionStats, WriteStat};
+use mx_ask::{Question, Reply};
+use mx_base::{FileAt, Instant, Partition};
+use mx_meta::{PartitionStats, WriteStat};
 use std::alloc::{AllocError, Global};
 
 /// The maps of the actions at most at an instant.
@@ -21,17 +22,25 @@ pub fn rebuild(alloc: Global, actions: &[Action], at: Instant) -> Result<Maps, A
     Ok(maps)
 }
 
-/// The reply to a question for a partition's files, as the maps at an instant say.
+/// The reply to a question, as the maps at an instant say.
 pub fn answer(
     alloc: Global,
-    partition: &Partition,
+    question: &Question,
     maps: &Maps,
     at: Instant,
 ) -> Result<Reply, AllocError>
-    ensures { IfOk result (λ reply. reply ≡ files_answer partition.now maps.now at) }
+    ensures { IfOk result (λ reply. reply ≡ spec.answer question.now maps.now at) }
 {
-    let files = maps.file_sizes(alloc, partition)?;
-    Ok(Reply::Files { at, files })
+    match question {
+        Question::Files { partition } => {
+            let files = maps.file_sizes(alloc, partition)?;
+            Ok(Reply::Files { at, files })
+        }
+        Question::Partitions => {
+            let partitions = maps.partitions(alloc)?;
+            Ok(Reply::Partitions { at, partitions })
+        }
+    }
 }
 
 fn add_action_upto(
@@ -68,22 +77,18 @@ fn add_partition(
         ≡ fold with_file maps.old (map (file_of at stats.now.partition) stats.now.stats)) }
 {
     for stat in stats.stats.as_slice() {
-        maps.add(alloc, written_file(alloc, at, &stats.partition, stat)?)?;
+        maps.add(alloc, written_file(at, &stats.partition, stat)?)?;
     }
     Ok(())
 }
 
-fn written_file(
-    alloc: Global,
-    at: Instant,
-    partition: &Partition,
-    stat: &WriteStat,
-) -> Result<AddedFile, AllocError>
+fn written_file(at: Instant, partition: &Partition, stat: &WriteStat) -> Result<FileAt, AllocError>
     ensures { IfOk result (λ file. file ≡ file_of at partition.now stat.now) }
 {
-    Ok(AddedFile {
-        name: data_file_name(alloc, &stat.file_id, at)?,
+    Ok(FileAt {
         partition: partition.clone()?,
+        file: stat.file_id,
+        at,
         size: stat.file_size_in_bytes,
     })
 }

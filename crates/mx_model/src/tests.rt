@@ -1,5 +1,5 @@
 use super::*;
-use mx_ask::{FileSize, Reply};
+use mx_ask::{FileSize, Question, Reply};
 use mx_base::{FileId, Instant, Partition, Path};
 use mx_lists::Listed;
 use mx_meta::{CommitMeta, PartitionStats, WriteStat};
@@ -91,15 +91,54 @@ fn a_partition_shows_the_files_of_the_commits_up_to_the_instant(
     ];
     for (number, partition, sizes) in cases {
         let upto = Instant::new(number).ok_or("no instant")?;
-        let partition = Partition::parse(alloc, partition)?;
+        let question = Question::Files {
+            partition: Partition::parse(alloc, partition)?,
+        };
         let maps = rebuild(alloc, actions.as_slice(), upto)?;
-        match answer(alloc, &partition, &maps, upto)? {
+        match answer(alloc, &question, &maps, upto)? {
             Reply::Files { at, files } => {
                 assert_eq!(rt; at.number(), number);
                 assert!(rt; are(files.as_slice(), sizes), "{number}");
             }
             _ => return Err(Fail::from("another reply")),
         }
+    }
+    Ok(())
+}
+
+// How many partitions the commits up to an instant list, and whether the first one is this.
+fn partitions_at(
+    alloc: Global,
+    actions: &[Action],
+    number: u64,
+    first: &str,
+) -> Result<(usize, bool), Fail> {
+    let upto = Instant::new(number).ok_or("no instant")?;
+    let maps = rebuild(alloc, actions, upto)?;
+    match answer(alloc, &Question::Partitions, &maps, upto)? {
+        Reply::Partitions { partitions, .. } => {
+            let names = partitions.as_slice();
+            let begins = names.first().is_some_and(|name| name.as_str() == first);
+            Ok((names.len(), begins))
+        }
+        _ => Err(Fail::from("another reply")),
+    }
+}
+
+#[test]
+fn the_partitions_are_those_that_the_commits_name(rt: HostRuntime) -> Result<(), Fail> {
+    let alloc = rt.alloc();
+    let mut actions = Vec::new(alloc);
+    actions.push(commit_of(alloc, 10, &[(SECOND, TWO, 200)])?)?;
+    actions.push(commit_of(alloc, 20, &[(FIRST, ONE, 150), (SECOND, ONE, 0)])?)?;
+    let cases = [
+        (9, FIRST, 0, false),
+        (10, SECOND, 1, true),
+        (20, FIRST, 2, true),
+    ];
+    for (number, first, count, begins) in cases {
+        let (found, is_first) = partitions_at(alloc, actions.as_slice(), number, first)?;
+        assert!(rt; found == count && is_first == begins, "{number}");
     }
     Ok(())
 }

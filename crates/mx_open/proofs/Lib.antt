@@ -3,6 +3,7 @@ pub mod InitLemmas
 pub mod KindLemmas
 pub mod ContextLemmas
 pub mod ObjectLemmas
+pub mod EntryLemmas
 pub mod LeastLemmas
 pub mod FaultLemmas
 pub mod OpeningLemmas

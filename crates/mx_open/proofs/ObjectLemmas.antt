@@ -1,8 +1,6 @@
 -- Objects of their kinds.
-use Rattle.std.proofs.Common.{◌≡◌, ℕ, Bool, true, false, List, Option, Some, None, IsSome, IfOk, Result, Ok, Err, refl, sym, ◌∙◌, subst}
-use Rattle.std.specs.Prelude.{Contains, is_some, option_map}
-use Rattle.mx_meta.specs.declared.added.AddedFile.{AddedFile}
-use Rattle.mx_meta.specs.declared.added.AddedLog.{AddedLog}
+use Rattle.std.proofs.Common.{◌≡◌, ℕ, Bool, List, Some, IfOk, Result, Ok, Err, sym, ◌∙◌, subst}
+use Rattle.std.specs.Prelude.{Contains}
 use Rattle.std.specs.declared.alloc.AllocError.{AllocError}
 use Rattle.mx_base.specs.Objects.{IsObjectName, object_path}
 use Rattle.mx_base.specs.declared.object_name.ObjectName.{ObjectName}
@@ -30,12 +28,5 @@ fine_if o path bytes stands r said = answers_as r (IsObjectAt o path bytes) (IsF
     (λ object other is. subst (IsObjectAt o path) (same_value bytes other (stands ∙ is)) object) (λ fine. fine bytes (sym stands)) said
 
 -- what is asked of a part that can be read
-pub asked_if : (o : Objects) (context : Context) (part : Part) (b : Bool) (P : Type 0) → IsContext o context → Contains context.available part → Decides b P → Decides b (IsAvailable o part → P)
-asked_if o context part b P is among said = decides_as b P (IsAvailable o part → P) (λ p _. p) (λ given. given (is.only_available part among)) said
-
--- a log that reads
-pub some_if : (log : Option AddedLog) (b : Bool) (added : Option (List AddedFile)) → b ≡ is_some log → option_map (λ (l : AddedLog). l.added) log ≡ added → Decides b (IsSome added)
-some_if None true added is reads = absurd (cc is)
-some_if None false added is reads = λ some. absurd (cc (subst IsSome (sym reads) some))
-some_if (Some log) true added is reads = subst IsSome reads refl
-some_if (Some log) false added is reads = absurd (cc is)
+pub asked_if : (o : Objects) (context : Context) (part : Part) (r : Result Bool AllocError) (P : Type 0) → IsContext o context → Contains context.available part → IfOk r (λ b. Decides b P) → IfOk r (λ b. Decides b (IsAvailable o part → P))
+asked_if o context part r P is among said = answers_as r P (IsAvailable o part → P) (λ p _. p) (λ given. given (is.only_available part among)) said

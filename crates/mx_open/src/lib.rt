@@ -13,6 +13,7 @@
 
 mod completed;
 mod context;
+mod entries;
 mod error;
 mod faults;
 mod folder;

@@ -3,6 +3,7 @@ ghost use Rattle.serde_json.specs.Written.{compact_text};
 ghost use Rattle.mx_base.specs.Objects.{object_path};
 ghost use Rattle.mx_base.specs.declared.object_name.MetadataActionKind.TheVariants as kinds;
 ghost use Rattle.mx_folder.specs.Named.{first_base};
+ghost use Rattle.mx_hfile.specs.Encoding.{encoding};
 ghost use Rattle.mx_meta.specs.ShardFiles.{base_meta_data};
 ghost use Rattle.mx_props.specs.Config.{config_text};
 ghost use Rattle.mx_folder.specs.Begin.{first_config, first_meta, init_changes};
@@ -60,7 +61,7 @@ fn new_objects(alloc: Global, schema: &Schema) -> Result<Vec<NewObject>, AllocEr
 {
     let empty: &[u8] = b"{}";
     let mark = object(alloc, indexing(false), Bytes::from_slice(alloc, empty)?)?;
-    let base = object(alloc, first_base(), Bytes::from_slice(alloc, empty)?)?;
+    let base = object(alloc, first_base(), base_bytes(alloc)?)?;
     let bases = object(alloc, indexing(true), bases_text(alloc)?)?;
     let config = object(alloc, ObjectName::Config, config_bytes(alloc, schema)?)?;
     Ok(vec![in alloc; mark, base, bases, config]?)
@@ -104,6 +105,13 @@ pub(crate) fn indexing(completed: bool) -> ObjectName
         kind: MetadataActionKind::Indexing,
         completed,
     }
+}
+
+// A base without entries.
+fn base_bytes(alloc: Global) -> Result<Bytes, AllocError>
+    ensures { IfOk result (λ bytes. bytes ≡ encoding []) }
+{
+    Ok(Bytes::from_vec(mx_hfile::write(alloc, &[])?))
 }
 
 fn bases_text(alloc: Global) -> Result<Bytes, AllocError>

@@ -1,19 +1,18 @@
 // Whether an object is of its kind, by its path and what the config says.
-ghost use Rattle.std.specs.Prelude.{◌≡◌, ℕ, IfOk, IsSome, codes};
+ghost use Rattle.std.specs.Prelude.{ℕ, IfOk};
 ghost use Rattle.mx_base.specs.declared.object_name.ObjectName.TheVariants as names;
 ghost use Rattle.mx_folder.specs.Folder.{IsObjectAt};
-ghost use Rattle.mx_folder.specs.Reading.{IsAvailable, Reads};
-ghost use Rattle.mx_meta.specs.AddedText.{added_of};
+ghost use Rattle.mx_folder.specs.Reading.{IsAvailable, Reads, ReadsAsBase, ReadsAsLog};
 ghost use Rattle.mx_store.specs.Objects.{Objects};
 ghost use Rattle.mx_open.specs.Deciding.{Decides, IsContext, IsFine};
 
 use crate::context::Context;
+use crate::entries::{is_base, is_log};
 use crate::held::Held;
 use crate::kinds::{reads_as_commit, reads_as_delta, reads_as_first};
 use mx_base::{
     ActionKind, ActionState, BaseKind, Instant, MetadataActionKind, ObjectName, Part, Path,
 };
-use mx_meta::AddedLog;
 use std::alloc::{AllocError, Global};
 
 /// Whether what stands at the path is an object of its kind.
@@ -70,8 +69,8 @@ fn reads(
             upto,
             kind,
             ..
-        } => Ok(reads_as_base(context, part, upto, kind, bytes)),
-        ObjectName::Log { part, .. } => reads_as_log(alloc, context, part, bytes),
+        } => reads_as_base(alloc, context, part, upto, kind, bytes),
+        ObjectName::Log { part, at, .. } => reads_as_log(alloc, context, part, at, bytes),
     }
 }
 
@@ -108,43 +107,50 @@ fn reads_as_metadata(
     }
 }
 
-fn reads_as_base(context: &Context, part: Part, upto: Instant, kind: BaseKind, bytes: &[u8]) -> bool
-    ensures { (objects : Objects) (shard : ℕ) → IsContext objects context.now → Decides result (Reads objects (names.Base part shard upto kind) bytes.now) }
+fn reads_as_base(
+    alloc: Global,
+    context: &Context,
+    part: Part,
+    upto: Instant,
+    kind: BaseKind,
+    bytes: &[u8],
+) -> Result<bool, AllocError>
+    ensures { (objects : Objects) (shard : ℕ) → IsContext objects context.now → IfOk result (λ reads. Decides reads (Reads objects (names.Base part shard upto kind) bytes.now)) }
 {
     match kind {
-        BaseKind::Indexing if upto.number() == 0 => holds_no_entries(context, part, bytes),
-        _ => false,
+        BaseKind::Indexing if upto.number() == 0 => reads_as_first_base(
+            alloc, context, part, bytes,
+        ),
+        _ => Ok(false),
     }
 }
 
 // A base of a part that can't be read is not looked at.
-fn holds_no_entries(context: &Context, part: Part, bytes: &[u8]) -> bool
-    ensures { (objects : Objects) → IsContext objects context.now → Decides result (IsAvailable objects part → bytes.now ≡ codes "{}") }
+fn reads_as_first_base(
+    alloc: Global,
+    context: &Context,
+    part: Part,
+    bytes: &[u8],
+) -> Result<bool, AllocError>
+    ensures { (objects : Objects) → IsContext objects context.now → IfOk result (λ reads. Decides reads (IsAvailable objects part → ReadsAsBase bytes.now)) }
 {
     if !context.is_available(part) {
-        return true;
+        return Ok(true);
     }
-    is_empty_text(bytes)
-}
-
-fn is_empty_text(bytes: &[u8]) -> bool
-    ensures { Decides result (bytes.now ≡ codes "{}") }
-{
-    let empty: &[u8] = b"{}";
-    bytes == empty
+    is_base(alloc, bytes)
 }
 
 fn reads_as_log(
     alloc: Global,
     context: &Context,
     part: Part,
+    at: Instant,
     bytes: &[u8],
 ) -> Result<bool, AllocError>
-    ensures { (objects : Objects) → IsContext objects context.now → IfOk result (λ reads. Decides reads (IsAvailable objects part → IsSome (added_of bytes.now))) }
+    ensures { (objects : Objects) → IsContext objects context.now → IfOk result (λ reads. Decides reads (IsAvailable objects part → ReadsAsLog at bytes.now)) }
 {
     if !context.is_available(part) {
         return Ok(true);
     }
-    let log = AddedLog::read(alloc, bytes)?;
-    Ok(log.is_some())
+    is_log(alloc, at, bytes)
 }

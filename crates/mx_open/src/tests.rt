@@ -7,23 +7,27 @@ use mx_store::{Change, MemStore, Store};
 use std::alloc::Global;
 use std::test::Fail;
 
+// A base without entries, as tools/print-index-objects prints it.
+const EMPTY_BASE: &[u8] =
+    b"IDXROOT2\x00\x00\x00\x04\x00\x00\x00\x00MDTTRAIL\x00\x00\x00\x01\x00\x00\x00\x00\x00\x00\x00\x00\x00\x00\x00\x00\x00\x00\x00\x00\x00\x00\x00\x10\x00\x00\x00\x00\x00\x00\x00\x00\x00\x00\x00\x00\x00\x00\x00\x00\x00\x00\x00\x00\x00\x00\x00\x00\x00\x00\x00\x00\x00\x00\x00\x00";
+
 // The paths and bytes of a new table, in the order in which they are made.
-const NEW_TABLE: [(&str, &str); 4] = [
+const NEW_TABLE: [(&str, &[u8]); 4] = [
     (
         ".hoodie/metadata/.hoodie/00000000000000000010.deltacommit.inflight",
-        "{}",
+        b"{}",
     ),
     (
         ".hoodie/metadata/files/files-0000_00000000000000000010.hfile",
-        "{}",
+        EMPTY_BASE,
     ),
     (
         ".hoodie/metadata/.hoodie/00000000000000000010.deltacommit",
-        "{\"bases\":[\".hoodie/metadata/files/files-0000_00000000000000000010.hfile\"],\"upto\":\"00000000000000000\"}",
+        b"{\"bases\":[\".hoodie/metadata/files/files-0000_00000000000000000010.hfile\"],\"upto\":\"00000000000000000\"}",
     ),
     (
         ".hoodie/hoodie.properties",
-        "hoodie.table.metadata.partitions=files\nhoodie.table.metadata.partitions.inflight=\nhoodie.table.version=6\nmdt.schema=a:int64\n",
+        b"hoodie.table.metadata.partitions=files\nhoodie.table.metadata.partitions.inflight=\nhoodie.table.version=6\nmdt.schema=a:int64\n",
     ),
 ];
 
@@ -58,10 +62,10 @@ fn holds_front(store: &MemStore, count: usize) -> bool {
     true
 }
 
-fn is_made(change: &Change, object: (&str, &str)) -> bool {
+fn is_made(change: &Change, object: (&str, &[u8])) -> bool {
     match change {
         Change::Create { path, bytes } => {
-            path.as_str() == object.0 && bytes.as_slice() == object.1.as_bytes()
+            path.as_str() == object.0 && bytes.as_slice() == object.1
         }
         _ => false,
     }
@@ -184,15 +188,15 @@ fn are_paths(paths: &[Path], expected: &[&str]) -> bool {
     true
 }
 
-fn put(alloc: Global, store: &mut MemStore, object: (&str, &str)) -> Result<(), Fail> {
+fn put(alloc: Global, store: &mut MemStore, object: (&str, &[u8])) -> Result<(), Fail> {
     let path = Path::parse(alloc, object.0)?;
-    match store.put(alloc, &path, object.1.as_bytes()) {
+    match store.put(alloc, &path, object.1) {
         Ok(()) => Ok(()),
         Err(_) => Err(Fail::new("the bytes are put")),
     }
 }
 
-fn put_all(alloc: Global, store: &mut MemStore, objects: &[(&str, &str)]) -> Result<(), Fail> {
+fn put_all(alloc: Global, store: &mut MemStore, objects: &[(&str, &[u8])]) -> Result<(), Fail> {
     for object in objects {
         put(alloc, store, *object)?;
     }
@@ -200,7 +204,7 @@ fn put_all(alloc: Global, store: &mut MemStore, objects: &[(&str, &str)]) -> Res
 }
 
 // A new table, and in it these objects.
-fn table_with(alloc: Global, objects: &[(&str, &str)]) -> Result<MemStore, Fail> {
+fn table_with(alloc: Global, objects: &[(&str, &[u8])]) -> Result<MemStore, Fail> {
     let mut store = MemStore::empty(alloc);
     if !begins(alloc, &mut store, "made")? {
         return Err(Fail::new("a new table is made"));
@@ -209,9 +213,9 @@ fn table_with(alloc: Global, objects: &[(&str, &str)]) -> Result<MemStore, Fail>
     Ok(store)
 }
 
-const COMMIT: (&str, &str) = (
+const COMMIT: (&str, &[u8]) = (
     ".hoodie/20250101000000000.commit",
-    "{\"partitionToWriteStats\":{}}",
+    b"{\"partitionToWriteStats\":{}}",
 );
 
 const DELTA: &str = ".hoodie/metadata/.hoodie/20250101000000000.deltacommit";
@@ -222,52 +226,70 @@ const REQUESTED: &str = ".hoodie/20250101000000000.commit.requested";
 
 const INFLIGHT: &str = ".hoodie/20250101000000000.inflight";
 
-const NAMES_LOG: &str = "{\"logs\":[\".hoodie/metadata/files/files-0000_20250101000000000.log\"]}";
+const NAMES_LOG: &[u8] =
+    b"{\"logs\":[\".hoodie/metadata/files/files-0000_20250101000000000.log\"]}";
 
-const OTHER_INSTANT: &str =
-    "{\"paths\":[\"p/11111111-1111-4111-8111-111111111111_0-0-0_20250101000000001.parquet\"]}";
+const OTHER_INSTANT: &[u8] =
+    b"{\"paths\":[\"p/11111111-1111-4111-8111-111111111111_0-0-0_20250101000000001.parquet\"]}";
+
+const BASE: &str = ".hoodie/metadata/files/files-0000_00000000000000000010.hfile";
+
+// The first log without its last byte.
+const CUT_LOG: &[u8] =
+    b"#HUDI#\x00\x01\x00G\xf1\\\x0c\xc5R\x00\x00\x00\x00\x00\x00\x00\x01\x01DATABLK*\x00\x00\x00\x8d\x00\x0a2024-01-01\x00\x00\x00P\x00\x04\x02\x02\x88\x0111111111-1111-4111-8111-111111111111_0-0-0_20250101000000000.parquet\x0a\x00\x00\x00\x00\x00\x00\x12__all_partitions__\x00\x00\x00\x15\x00\x02\x02\x02\x142024-01-01\x00\x00\x00\x00\x00\x00IDXROOT2\x00\x00\x00\x1c\x00\x00\x00\x01\x00\x00\x00\x00\x00\x00\x00\x00\x00\x00\x00\x99\x00\x0a2024-01-01MDTTRAIL\x00\x00\x00\x01\x00\x00\x00\x00\x00\x00\x00\x00\x00\x00\x00\x99\x00\x00\x00\x00\x00\x00\x00(\x00\x00\x00\x00\x00\x00\x00\x02\x00\x00\x00\x01\x00\x00\x00\x00\x00\x00\x00\x00\x00\x00\x00\x00\x00\x00\x00\x00\x00\x00\x00";
+
+// A base with one key twice, and one whose value is no payload.
+const TWICE_BASE: &[u8] =
+    b"DATABLK*\x00\x00\x00&\x00\x01p\x00\x00\x00\x0c\x00\x04\x02\x02\x02f\x0a\x00\x00\x00\x00\x00\x00\x01p\x00\x00\x00\x0c\x00\x04\x02\x02\x02f\x0a\x00\x00\x00\x00\x00IDXROOT2\x00\x00\x00\x13\x00\x00\x00\x01\x00\x00\x00\x00\x00\x00\x00\x00\x00\x00\x002\x00\x01pMDTTRAIL\x00\x00\x00\x01\x00\x00\x00\x00\x00\x00\x00\x00\x00\x00\x002\x00\x00\x00\x00\x00\x00\x00\x1f\x00\x00\x00\x00\x00\x00\x00\x02\x00\x00\x00\x01\x00\x00\x00\x00\x00\x00\x00\x00\x00\x00\x00\x00\x00\x00\x00\x00\x00\x00\x00\x00";
+
+const NO_PAYLOAD_BASE: &[u8] =
+    b"DATABLK*\x00\x00\x00\x09\x00\x01p\x00\x00\x00\x02\x00\x04IDXROOT2\x00\x00\x00\x13\x00\x00\x00\x01\x00\x00\x00\x00\x00\x00\x00\x00\x00\x00\x00\x15\x00\x01pMDTTRAIL\x00\x00\x00\x01\x00\x00\x00\x00\x00\x00\x00\x00\x00\x00\x00\x15\x00\x00\x00\x00\x00\x00\x00\x1f\x00\x00\x00\x00\x00\x00\x00\x01\x00\x00\x00\x01\x00\x00\x00\x00\x00\x00\x00\x00\x00\x00\x00\x00\x00\x00\x00\x00\x00\x00\x00\x00";
 
 // Objects beside those of a new table, and the least path that they damage.
-const DAMAGE: [(&[(&str, &str)], &str); 14] = [
-    (&[(".hoodie/x", "")], ".hoodie/x"),
-    (&[(REQUESTED, "[]")], REQUESTED),
-    (&[(REQUESTED, "{\"a\":1}")], REQUESTED),
+const DAMAGE: [(&[(&str, &[u8])], &str); 18] = [
+    (&[(LOG, CUT_LOG)], LOG),
+    (&[(LOG, SECOND_LOG)], LOG),
+    (&[(BASE, TWICE_BASE)], BASE),
+    (&[(BASE, NO_PAYLOAD_BASE)], BASE),
+    (&[(".hoodie/x", b"")], ".hoodie/x"),
+    (&[(REQUESTED, b"[]")], REQUESTED),
+    (&[(REQUESTED, b"{\"a\":1}")], REQUESTED),
     (&[(INFLIGHT, OTHER_INSTANT)], INFLIGHT),
     (
-        &[(".hoodie/20250101000000000.clean", "{}")],
+        &[(".hoodie/20250101000000000.clean", b"{}")],
         ".hoodie/20250101000000000.clean",
     ),
     (&[COMMIT], DELTA),
     (&[COMMIT, (DELTA, NAMES_LOG)], LOG),
-    (&[(DELTA, "{}")], DELTA),
-    (&[(LOG, "{}")], LOG),
+    (&[(DELTA, b"{}")], DELTA),
+    (&[(LOG, b"{}")], LOG),
     (
-        &[(LOG, "{}"), (".hoodie/x", "")],
+        &[(LOG, b"{}"), (".hoodie/x", b"")],
         ".hoodie/metadata/files/files-0000_20250101000000000.log",
     ),
-    (&[(DELTA, "{}"), (LOG, "{}")], DELTA),
+    (&[(DELTA, b"{}"), (LOG, b"{}")], DELTA),
     (
         &[(
             ".hoodie/metadata/files/files-0000_00000000000000000001.hfile",
-            "{}",
+            b"{}",
         )],
         ".hoodie/metadata/files/files-0000_00000000000000000001.hfile",
     ),
     (
         &[(
             ".hoodie/metadata/files/files-0000_00000000000000000010.hfile",
-            "{} ",
+            b"{} ",
         )],
         ".hoodie/metadata/files/files-0000_00000000000000000010.hfile",
     ),
     (
-        &[(".hoodie/hoodie.properties", "hoodie.table.version=6\n")],
+        &[(".hoodie/hoodie.properties", b"hoodie.table.version=6\n")],
         ".hoodie/hoodie.properties",
     ),
 ];
 
 // Whether a new table with these objects is refused for this.
-fn is_damaged(alloc: Global, objects: &[(&str, &str)], word: &str) -> Result<bool, Fail> {
+fn is_damaged(alloc: Global, objects: &[(&str, &[u8])], word: &str) -> Result<bool, Fail> {
     let mut store = table_with(alloc, objects)?;
     Ok(is_refused(alloc, &mut store, word))
 }
@@ -278,6 +300,25 @@ fn the_least_path_that_shows_damage_is_told(rt: HostRuntime) -> Result<(), Fail>
     for (objects, damaged) in DAMAGE {
         let told = is_damaged(alloc, objects, damaged)?;
         assert!(rt; told, "{damaged}");
+    }
+    Ok(())
+}
+
+// Whether a new table is damaged at its base where one byte of that is another.
+fn is_damaged_with(alloc: Global, place: usize) -> Result<bool, Fail> {
+    let mut bytes = Vec::from_slice(alloc, EMPTY_BASE)?;
+    if let Some(byte) = bytes.get_mut(place) {
+        *byte ^= 1;
+    }
+    is_damaged(alloc, &[(BASE, bytes.as_slice())], BASE)
+}
+
+#[test]
+fn a_base_without_entries_is_damaged_by_any_other_byte(rt: HostRuntime) -> Result<(), Fail> {
+    let alloc = rt.alloc();
+    for place in 0..EMPTY_BASE.len() {
+        let damaged = is_damaged_with(alloc, place)?;
+        assert!(rt; damaged, "at {place}");
     }
     Ok(())
 }
@@ -294,7 +335,6 @@ fn table_without(alloc: Global, path: &str) -> Result<MemStore, Fail> {
 #[test]
 fn a_base_that_is_named_cannot_be_missing(rt: HostRuntime) -> Result<(), Fail> {
     let alloc = rt.alloc();
-    const BASE: &str = ".hoodie/metadata/files/files-0000_00000000000000000010.hfile";
     let mut store = table_without(alloc, BASE)?;
     assert!(rt; is_refused(alloc, &mut store, BASE));
     Ok(())
@@ -303,12 +343,12 @@ fn a_base_that_is_named_cannot_be_missing(rt: HostRuntime) -> Result<(), Fail> {
 #[test]
 fn another_version_is_told_before_damage(rt: HostRuntime) -> Result<(), Fail> {
     let alloc = rt.alloc();
-    const OBJECTS: [(&str, &str); 2] = [
+    const OBJECTS: [(&str, &[u8]); 2] = [
         (
             ".hoodie/hoodie.properties",
-            "hoodie.table.metadata.partitions=files\n\nhoodie.table.version=5\n",
+            b"hoodie.table.metadata.partitions=files\n\nhoodie.table.version=5\n",
         ),
-        (".hoodie/x", ""),
+        (".hoodie/x", b""),
     ];
     let told = is_damaged(alloc, &OBJECTS, "version 5")?;
     assert!(rt; told);
@@ -319,7 +359,7 @@ fn another_version_is_told_before_damage(rt: HostRuntime) -> Result<(), Fail> {
 fn a_folder_without_a_config_is_no_table(rt: HostRuntime) -> Result<(), Fail> {
     let alloc = rt.alloc();
     let mut store = MemStore::empty(alloc);
-    put(alloc, &mut store, (".hoodie/x", ""))?;
+    put(alloc, &mut store, (".hoodie/x", b""))?;
     assert!(rt; is_refused(alloc, &mut store, "no table"));
     Ok(())
 }
@@ -334,7 +374,7 @@ fn a_pending_commit_and_a_stray_file_are_no_damage(rt: HostRuntime) -> Result<()
         ".hoodie/metadata/.hoodie/00000000000000000010.deltacommit.inflight",
         ".hoodie/metadata/files/files-0000_00000000000000000010.hfile",
     ];
-    let mut store = table_with(alloc, &[(REQUESTED, " { } "), ("a/b", "x")])?;
+    let mut store = table_with(alloc, &[(REQUESTED, b" { } "), ("a/b", b"x")])?;
     assert!(rt; holds(alloc, &mut store, &NAMES, &["a/b"]));
     Ok(())
 }
@@ -356,30 +396,34 @@ fn a_read_that_fails_is_a_fault(rt: HostRuntime) -> Result<(), Fail> {
     Ok(())
 }
 
+// The logs of two commits, each of one file of 5 bytes, as tools/print-index-objects prints them.
+const FIRST_LOG: &[u8] =
+    b"#HUDI#\x00\x01\x00G\xf1\\\x0c\xc5R\x00\x00\x00\x00\x00\x00\x00\x01\x01DATABLK*\x00\x00\x00\x8d\x00\x0a2024-01-01\x00\x00\x00P\x00\x04\x02\x02\x88\x0111111111-1111-4111-8111-111111111111_0-0-0_20250101000000000.parquet\x0a\x00\x00\x00\x00\x00\x00\x12__all_partitions__\x00\x00\x00\x15\x00\x02\x02\x02\x142024-01-01\x00\x00\x00\x00\x00\x00IDXROOT2\x00\x00\x00\x1c\x00\x00\x00\x01\x00\x00\x00\x00\x00\x00\x00\x00\x00\x00\x00\x99\x00\x0a2024-01-01MDTTRAIL\x00\x00\x00\x01\x00\x00\x00\x00\x00\x00\x00\x00\x00\x00\x00\x99\x00\x00\x00\x00\x00\x00\x00(\x00\x00\x00\x00\x00\x00\x00\x02\x00\x00\x00\x01\x00\x00\x00\x00\x00\x00\x00\x00\x00\x00\x00\x00\x00\x00\x00\x00\x00\x00\x00\x00";
+
+const SECOND_LOG: &[u8] =
+    b"#HUDI#\x00\x01\x00G\xf1\\\x0c\xc5R\x01\x00\x00\x00\x00\x00\x00\x01\x01DATABLK*\x00\x00\x00\x8d\x00\x0a2024-01-01\x00\x00\x00P\x00\x04\x02\x02\x88\x0122222222-2222-4222-8222-222222222222_0-0-0_20250101000000001.parquet\x0a\x00\x00\x00\x00\x00\x00\x12__all_partitions__\x00\x00\x00\x15\x00\x02\x02\x02\x142024-01-01\x00\x00\x00\x00\x00\x00IDXROOT2\x00\x00\x00\x1c\x00\x00\x00\x01\x00\x00\x00\x00\x00\x00\x00\x00\x00\x00\x00\x99\x00\x0a2024-01-01MDTTRAIL\x00\x00\x00\x01\x00\x00\x00\x00\x00\x00\x00\x00\x00\x00\x00\x99\x00\x00\x00\x00\x00\x00\x00(\x00\x00\x00\x00\x00\x00\x00\x02\x00\x00\x00\x01\x00\x00\x00\x00\x00\x00\x00\x00\x00\x00\x00\x00\x00\x00\x00\x00\x00\x00\x00\x00";
+
 // Two commits with their logs, and the request of a third one.
-const COMMITS: [(&str, &str); 7] = [
+const COMMITS: [(&str, &[u8]); 7] = [
     (
         ".hoodie/20250101000000000.commit",
-        "{\"partitionToWriteStats\":{\"2024-01-01\":[{\"fileId\":\"11111111-1111-4111-8111-111111111111\",\"fileSizeInBytes\":5,\"numWrites\":0,\"path\":\"2024-01-01/11111111-1111-4111-8111-111111111111_0-0-0_20250101000000000.parquet\",\"prevCommit\":\"null\"}]}}",
+        b"{\"partitionToWriteStats\":{\"2024-01-01\":[{\"fileId\":\"11111111-1111-4111-8111-111111111111\",\"fileSizeInBytes\":5,\"numWrites\":0,\"path\":\"2024-01-01/11111111-1111-4111-8111-111111111111_0-0-0_20250101000000000.parquet\",\"prevCommit\":\"null\"}]}}",
     ),
     (DELTA, NAMES_LOG),
-    (
-        LOG,
-        "{\"added\":[{\"name\":\"11111111-1111-4111-8111-111111111111_0-0-0_20250101000000000.parquet\",\"partition\":\"2024-01-01\",\"size\":5}]}",
-    ),
+    (LOG, FIRST_LOG),
     (
         ".hoodie/20250101000000001.commit",
-        "{\"partitionToWriteStats\":{\"2024-01-01\":[{\"fileId\":\"22222222-2222-4222-8222-222222222222\",\"fileSizeInBytes\":5,\"numWrites\":0,\"path\":\"2024-01-01/22222222-2222-4222-8222-222222222222_0-0-0_20250101000000001.parquet\",\"prevCommit\":\"null\"}]}}",
+        b"{\"partitionToWriteStats\":{\"2024-01-01\":[{\"fileId\":\"22222222-2222-4222-8222-222222222222\",\"fileSizeInBytes\":5,\"numWrites\":0,\"path\":\"2024-01-01/22222222-2222-4222-8222-222222222222_0-0-0_20250101000000001.parquet\",\"prevCommit\":\"null\"}]}}",
     ),
     (
         ".hoodie/metadata/.hoodie/20250101000000001.deltacommit",
-        "{\"logs\":[\".hoodie/metadata/files/files-0000_20250101000000001.log\"]}",
+        b"{\"logs\":[\".hoodie/metadata/files/files-0000_20250101000000001.log\"]}",
     ),
     (
         ".hoodie/metadata/files/files-0000_20250101000000001.log",
-        "{\"added\":[{\"name\":\"22222222-2222-4222-8222-222222222222_0-0-0_20250101000000001.parquet\",\"partition\":\"2024-01-01\",\"size\":5}]}",
+        SECOND_LOG,
     ),
-    (".hoodie/20250101000000002.commit.requested", "{}"),
+    (".hoodie/20250101000000002.commit.requested", b"{}"),
 ];
 
 // Whether the folder is read, and its completed commits have these instants and each a file of this group.

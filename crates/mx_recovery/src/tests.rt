@@ -26,46 +26,53 @@ const DELTA: &str = ".hoodie/metadata/.hoodie/20250101000000000.deltacommit";
 
 const COMPLETED: &str = ".hoodie/20250101000000000.commit";
 
+// A base and a log without entries, and the log of one file of 5 bytes, as tools/print-index-objects prints them.
+const EMPTY_BASE: &[u8] =
+    b"IDXROOT2\x00\x00\x00\x04\x00\x00\x00\x00MDTTRAIL\x00\x00\x00\x01\x00\x00\x00\x00\x00\x00\x00\x00\x00\x00\x00\x00\x00\x00\x00\x00\x00\x00\x00\x10\x00\x00\x00\x00\x00\x00\x00\x00\x00\x00\x00\x00\x00\x00\x00\x00\x00\x00\x00\x00\x00\x00\x00\x00\x00\x00\x00\x00\x00\x00\x00\x00";
+
+const NO_ENTRIES: &[u8] =
+    b"#HUDI#\x00\x01\x00G\xf1\\\x0c\xc5R\x07\x00\x00\x00\x00\x00\x00\x00PIDXROOT2\x00\x00\x00\x04\x00\x00\x00\x00MDTTRAIL\x00\x00\x00\x01\x00\x00\x00\x00\x00\x00\x00\x00\x00\x00\x00\x00\x00\x00\x00\x00\x00\x00\x00\x10\x00\x00\x00\x00\x00\x00\x00\x00\x00\x00\x00\x00\x00\x00\x00\x00\x00\x00\x00\x00\x00\x00\x00\x00\x00\x00\x00\x00\x00\x00\x00\x00";
+
+const ONE_LOG: &[u8] =
+    b"#HUDI#\x00\x01\x00G\xf1\\\x0c\xc5R\x00\x00\x00\x00\x00\x00\x00\x01\x01DATABLK*\x00\x00\x00\x8d\x00\x0a2024-01-01\x00\x00\x00P\x00\x04\x02\x02\x88\x0111111111-1111-4111-8111-111111111111_0-0-0_20250101000000000.parquet\x0a\x00\x00\x00\x00\x00\x00\x12__all_partitions__\x00\x00\x00\x15\x00\x02\x02\x02\x142024-01-01\x00\x00\x00\x00\x00\x00IDXROOT2\x00\x00\x00\x1c\x00\x00\x00\x01\x00\x00\x00\x00\x00\x00\x00\x00\x00\x00\x00\x99\x00\x0a2024-01-01MDTTRAIL\x00\x00\x00\x01\x00\x00\x00\x00\x00\x00\x00\x00\x00\x00\x00\x99\x00\x00\x00\x00\x00\x00\x00(\x00\x00\x00\x00\x00\x00\x00\x02\x00\x00\x00\x01\x00\x00\x00\x00\x00\x00\x00\x00\x00\x00\x00\x00\x00\x00\x00\x00\x00\x00\x00\x00";
+
 // The paths and bytes of a new table.
-const NEW_TABLE: [(&str, &str); 4] = [
+const NEW_TABLE: [(&str, &[u8]); 4] = [
     (
         ".hoodie/metadata/.hoodie/00000000000000000010.deltacommit.inflight",
-        "{}",
+        b"{}",
     ),
     (
         ".hoodie/metadata/files/files-0000_00000000000000000010.hfile",
-        "{}",
+        EMPTY_BASE,
     ),
     (
         ".hoodie/metadata/.hoodie/00000000000000000010.deltacommit",
-        "{\"bases\":[\".hoodie/metadata/files/files-0000_00000000000000000010.hfile\"],\"upto\":\"00000000000000000\"}",
+        b"{\"bases\":[\".hoodie/metadata/files/files-0000_00000000000000000010.hfile\"],\"upto\":\"00000000000000000\"}",
     ),
     (
         CONFIG,
-        "hoodie.table.metadata.partitions=files\nhoodie.table.metadata.partitions.inflight=\nhoodie.table.version=6\nmdt.schema=a:int64\n",
+        b"hoodie.table.metadata.partitions=files\nhoodie.table.metadata.partitions.inflight=\nhoodie.table.version=6\nmdt.schema=a:int64\n",
     ),
 ];
 
 // The objects of a commit of one file, in the order in which they are made.
-const COMMIT: [(&str, &str); 7] = [
-    (REQUESTED, "{}"),
+const COMMIT: [(&str, &[u8]); 7] = [
+    (REQUESTED, b"{}"),
     (
         INFLIGHT,
-        "{\"paths\":[\"2024-01-01/11111111-1111-4111-8111-111111111111_0-0-0_20250101000000000.parquet\"]}",
+        b"{\"paths\":[\"2024-01-01/11111111-1111-4111-8111-111111111111_0-0-0_20250101000000000.parquet\"]}",
     ),
-    (DATA, "hello"),
-    (MARK, "{}"),
-    (
-        LOG,
-        "{\"added\":[{\"name\":\"11111111-1111-4111-8111-111111111111_0-0-0_20250101000000000.parquet\",\"partition\":\"2024-01-01\",\"size\":5}]}",
-    ),
+    (DATA, b"hello"),
+    (MARK, b"{}"),
+    (LOG, ONE_LOG),
     (
         DELTA,
-        "{\"logs\":[\".hoodie/metadata/files/files-0000_20250101000000000.log\"]}",
+        b"{\"logs\":[\".hoodie/metadata/files/files-0000_20250101000000000.log\"]}",
     ),
     (
         COMPLETED,
-        "{\"partitionToWriteStats\":{\"2024-01-01\":[{\"fileId\":\"11111111-1111-4111-8111-111111111111\",\"fileSizeInBytes\":5,\"numWrites\":0,\"path\":\"2024-01-01/11111111-1111-4111-8111-111111111111_0-0-0_20250101000000000.parquet\",\"prevCommit\":\"null\"}]}}",
+        b"{\"partitionToWriteStats\":{\"2024-01-01\":[{\"fileId\":\"11111111-1111-4111-8111-111111111111\",\"fileSizeInBytes\":5,\"numWrites\":0,\"path\":\"2024-01-01/11111111-1111-4111-8111-111111111111_0-0-0_20250101000000000.parquet\",\"prevCommit\":\"null\"}]}}",
     ),
 ];
 
@@ -149,24 +156,24 @@ fn opened(alloc: Global, store: MemStore, now: u64) -> Seen
     opened_as::<Brand>(alloc, store, at)
 }
 
-fn add(alloc: Global, store: &mut MemStore, path: &str, text: &str) -> Result<(), Fail> {
+fn add(alloc: Global, store: &mut MemStore, path: &str, bytes: &[u8]) -> Result<(), Fail> {
     let path = Path::parse(alloc, path)?;
-    match store.create(alloc, &path, text.as_bytes()) {
+    match store.create(alloc, &path, bytes) {
         Ok(true) => Ok(()),
         _ => Err(Fail::new("an object is made")),
     }
 }
 
-fn add_all(alloc: Global, store: &mut MemStore, objects: &[(&str, &str)]) -> Result<(), Fail> {
-    for (path, text) in objects {
-        add(alloc, store, path, text)?;
+fn add_all(alloc: Global, store: &mut MemStore, objects: &[(&str, &[u8])]) -> Result<(), Fail> {
+    for (path, bytes) in objects {
+        add(alloc, store, path, bytes)?;
     }
     Ok(())
 }
 
 fn add_front(alloc: Global, store: &mut MemStore, count: usize) -> Result<(), Fail> {
-    for (path, text) in COMMIT.iter().take(count) {
-        add(alloc, store, path, text)?;
+    for (path, bytes) in COMMIT.iter().take(count) {
+        add(alloc, store, path, bytes)?;
     }
     Ok(())
 }
@@ -180,7 +187,7 @@ fn table_with(alloc: Global, count: usize) -> Result<MemStore, Fail> {
 }
 
 // A new table with the first so many objects of the commit, and with these.
-fn table_of(alloc: Global, count: usize, objects: &[(&str, &str)]) -> Result<MemStore, Fail> {
+fn table_of(alloc: Global, count: usize, objects: &[(&str, &[u8])]) -> Result<MemStore, Fail> {
     let mut store = table_with(alloc, count)?;
     add_all(alloc, &mut store, objects)?;
     Ok(store)
@@ -275,7 +282,7 @@ fn pending_commits_go_by_rising_instant_each_with_its_own_logs(
     rt: HostRuntime,
 ) -> Result<(), Fail> {
     let alloc = rt.alloc();
-    const NEXT: [(&str, &str); 2] = [(NEXT_REQUESTED, "{}"), (NEXT_LOG, "{\"added\":[]}")];
+    const NEXT: [(&str, &[u8]); 2] = [(NEXT_REQUESTED, b"{}"), (NEXT_LOG, NO_ENTRIES)];
     const GONE: [&str; 8] = [
         LOG,
         DELTA,
@@ -294,12 +301,12 @@ fn pending_commits_go_by_rising_instant_each_with_its_own_logs(
 #[test]
 fn a_list_of_files_without_a_request_is_a_pending_commit(rt: HostRuntime) -> Result<(), Fail> {
     let alloc = rt.alloc();
-    const OBJECTS: [(&str, &str); 2] = [
+    const OBJECTS: [(&str, &[u8]); 2] = [
         (
             INFLIGHT,
-            "{\"paths\":[\"2024-01-01/11111111-1111-4111-8111-111111111111_0-0-0_20250101000000000.parquet\"]}",
+            b"{\"paths\":[\"2024-01-01/11111111-1111-4111-8111-111111111111_0-0-0_20250101000000000.parquet\"]}",
         ),
-        (DATA, "hello"),
+        (DATA, b"hello"),
     ];
     let seen = opened(alloc, table_of(alloc, 0, &OBJECTS)?, MOMENT);
     assert!(rt; are_deleted(&seen.store, 6, &[DATA, INFLIGHT]));
@@ -370,7 +377,7 @@ fn the_last_instant_is_the_greatest_in_any_name_at_the_opening(
 #[test]
 fn the_name_of_a_data_file_counts_for_the_last_instant(rt: HostRuntime) -> Result<(), Fail> {
     let alloc = rt.alloc();
-    let seen = opened(alloc, table_of(alloc, 0, &[(STRAY, "x")])?, MOMENT);
+    let seen = opened(alloc, table_of(alloc, 0, &[(STRAY, b"x")])?, MOMENT);
     assert_eq!(rt; seen.last, MOMENT + 9);
     Ok(())
 }
@@ -378,7 +385,7 @@ fn the_name_of_a_data_file_counts_for_the_last_instant(rt: HostRuntime) -> Resul
 // Whether a folder of one object is refused for this, and kept.
 fn is_refused(alloc: Global, path: &str, text: &str, said: &str) -> Result<bool, Fail> {
     let mut store = MemStore::empty(alloc);
-    add(alloc, &mut store, path, text)?;
+    add(alloc, &mut store, path, text.as_bytes())?;
     let seen = opened(alloc, store, MOMENT);
     Ok(seen.said == said && seen.store.journal().len() == 1)
 }

@@ -1,6 +1,6 @@
 -- The changes of a commit may be made in turn.
 use Rattle.std.proofs.Common.{◌≡◌, ◌≢◌, inl, inr, ℕ, ◌+◌, ◌^◌, ◌≤◌, ◌<◌, arith, Bool, true, false, List, [], ◌∷◌, ◌++◌, Option, Some, None, IsSome, refl, sym, ◌∙◌, ap, subst}
-use Rattle.std.specs.Prelude.{All, Contains, fold, map, max, unwrap_or, codes, nat_lt, ◌&&◌, ◌||◌, option_and_then}
+use Rattle.std.specs.Prelude.{All, Contains, map, max, unwrap_or, codes, nat_lt, ◌&&◌, ◌||◌, option_and_then, option_to_list}
 use Rattle.std.specs.FinMap as finmap
 use Rattle.std.proofs.lemmas.Bool.Decides.{nat_tests}
 use Rattle.std.proofs.lemmas.List.Elements.{All-cons, All-nil, All-head, All-tail, All-append, All-weaker, All-contains, All-contains_itself}
@@ -24,19 +24,25 @@ use Rattle.mx_store.specs.Journal.{AreAllowed}
 use Rattle.mx_store.specs.Objects.{Objects, at_path, apply, after_all, objects_of}
 use Rattle.mx_store.proofs.Journal.{objects_of-push}
 use Rattle.mx_store.proofs.Paths.{at_same, at_other}
-use Rattle.mx_meta.specs.AddedText.{added_data, added_of}
 use Rattle.mx_meta.specs.CommitText.{commit_meta_data}
 use Rattle.mx_meta.specs.ShardFiles.{delta_meta_data}
-use Rattle.mx_meta.specs.declared.added.AddedFile.{AddedFile}
+use Rattle.mx_base.specs.declared.entry.Entry.{Entry}
+use Rattle.mx_files.specs.Delta.{IsDelta, delta_on}
+use Rattle.mx_files.specs.Files.{expected_on}
+use Rattle.mx_files.proofs.DeltaLemmas.{shows_after, delta-nothing}
+use Rattle.mx_log.specs.Encoding.{log_encoding}
+use Rattle.mx_merge.specs.Shown.{shown}
+use Rattle.mx_merge.specs.Merged.{payloads_on_key}
+use Rattle.mx_payload.specs.declared.payload.Payload.{Payload}
 use Rattle.mx_meta.specs.declared.commit_meta.CommitMeta.{CommitMeta}
 use Rattle.mx_meta.specs.declared.commit_meta.PartitionStats.{PartitionStats}
 use Rattle.mx_meta.specs.declared.commit_meta.WriteStat.{WriteStat}
-use Rattle.mx_model.specs.Maps.{with_file}
 use Rattle.mx_folder.specs.Named.{commit_name, delta_name, log_name}
 use Rattle.mx_folder.specs.Pending.{requested_name, inflight_name, delta_mark}
-use Rattle.mx_folder.specs.Actions.{IsCompleted, added_at}
+use Rattle.mx_folder.specs.Actions.{IsCompleted}
+use Rattle.mx_folder.specs.Slices.{log_of, entries_at}
 use Rattle.mx_folder.specs.Folder.{IsValidTable}
-use Rattle.mx_folder.specs.Reading.{IsDataFileOf, IsLogOf, NamesItsFiles}
+use Rattle.mx_folder.specs.Reading.{SpellPayloads, IsDataFileOf, IsLogOf, NamesItsFiles}
 use Rattle.mx_folder.specs.Steps.{IsMadeBefore, MayComplete}
 use Rattle.mx_folder.proofs.BeginLemmas.{empty_object}
 use Rattle.mx_folder.proofs.CompletionLemmas.{completion_keeps}
@@ -170,60 +176,63 @@ module _ (t : ℕ) (meant : 0 < t) (small : t < 10 ^ 17) where
 
   -- ---- the log
 
-  added_early : (files : List FileText) → added_of (compact_text (added_data (files_added files t))) ≡ Some (files_added files t) → AreEarly t (added_changes files t)
-  added_early [] reads = tt
-  added_early (file ∷ files) reads = (inl (log_name t, named, refl, refl, λ o available. is_some_same _ _ reads refl), tt)
+  added_early : (files : List FileText) (es : List Entry) → log_of t (log_encoding t es) ≡ Some es → SpellPayloads es → AreEarly t (added_changes files t es)
+  added_early [] es reads spelled = tt
+  added_early (file ∷ files) es reads spelled = (inl (log_name t, named, refl, refl, λ o available. (es, reads, spelled)), tt)
 
   logs_all : (files : List FileText) → All (IsLogOf t) (logs_written files t)
   logs_all [] = All-nil (IsLogOf t)
   logs_all (file ∷ files) = All-cons (IsLogOf t) (object_path (log_name t)) [] (Files, 0, named, refl) (All-nil (IsLogOf t))
 
-  added_apart : (path : List ℕ) (files : List FileText) → object_path (log_name t) ≢ path → AreApart path (added_changes files t)
-  added_apart path [] other = tt
-  added_apart path (file ∷ files) other = (other, tt)
+  added_apart : (path : List ℕ) (files : List FileText) (es : List Entry) → object_path (log_name t) ≢ path → AreApart path (added_changes files t es)
+  added_apart path [] es other = tt
+  added_apart path (file ∷ files) es other = (other, tt)
 
-  added_distinct : (files : List FileText) → AreDistinct (added_changes files t ++ Create (object_path (delta_name t)) (compact_text (delta_meta_data (logs_written files t))) ∷ [])
-  added_distinct [] = (tt, tt)
-  added_distinct (file ∷ files) = ((other_path (delta_name t) (log_name t) delta_named named (λ same. absurd (cc same)), tt), (tt, tt))
+  added_distinct : (files : List FileText) (es : List Entry) → AreDistinct (added_changes files t es ++ Create (object_path (delta_name t)) (compact_text (delta_meta_data (logs_written files t))) ∷ [])
+  added_distinct [] es = (tt, tt)
+  added_distinct (file ∷ files) es = ((other_path (delta_name t) (log_name t) delta_named named (λ same. absurd (cc same)), tt), (tt, tt))
 
   -- what stands elsewhere than the log and the object that names it
-  logs_apart : (path : List ℕ) (files : List FileText) → object_path (delta_mark t) ≢ path → object_path (log_name t) ≢ path → object_path (delta_name t) ≢ path → AreApart path (log_changes files t)
-  logs_apart path files mark log delta = (mark, both_apart path (added_changes files t) _ (added_apart path files log) (delta, tt))
+  logs_apart : (path : List ℕ) (files : List FileText) (es : List Entry) → object_path (delta_mark t) ≢ path → object_path (log_name t) ≢ path → object_path (delta_name t) ≢ path → AreApart path (log_changes files t es)
+  logs_apart path files es mark log delta = (mark, both_apart path (added_changes files t es) _ (added_apart path files es log) (delta, tt))
 
-  log_changes_distinct : (files : List FileText) → AreDistinct (log_changes files t)
-  log_changes_distinct files = (
-    both_apart (object_path (delta_mark t)) (added_changes files t) _ (added_apart (object_path (delta_mark t)) files (other_path (log_name t) (delta_mark t) named delta_named (λ same. absurd (cc same))))
+  log_changes_distinct : (files : List FileText) (es : List Entry) → AreDistinct (log_changes files t es)
+  log_changes_distinct files es = (
+    both_apart (object_path (delta_mark t)) (added_changes files t es) _ (added_apart (object_path (delta_mark t)) files es (other_path (log_name t) (delta_mark t) named delta_named (λ same. absurd (cc same))))
         (other_path (delta_name t) (delta_mark t) delta_named delta_named (λ same. absurd (cc same)), tt),
-    added_distinct files,
+    added_distinct files es,
   )
 
-  data_logs : (all files : List FileText) → All IsFileText files → EachApart (data_changes files t) (log_changes all t)
-  data_logs all [] are = tt
-  data_logs all (file ∷ files) are =
+  data_logs : (all : List FileText) (es : List Entry) (files : List FileText) → All IsFileText files → EachApart (data_changes files t) (log_changes all t es)
+  data_logs all es [] are = tt
+  data_logs all es (file ∷ files) are =
       let other = λ (name : ObjectName) (same : object_path name ≡ data_file file t). data_other file (All-head IsFileText file files are) name (sym same) in
-      (logs_apart (data_file file t) all (other (delta_mark t)) (other (log_name t)) (other (delta_name t)), data_logs all files (All-tail IsFileText file files are))
+      (logs_apart (data_file file t) all es (other (delta_mark t)) (other (log_name t)) (other (delta_name t)), data_logs all es files (All-tail IsFileText file files are))
 
   -- what the log adds, once it is made where nothing stood
-  log_after : (o : Objects) (files : List FileText) (text : List ℕ) → at_path o (object_path (log_name t)) ≡ None → added_of (compact_text (added_data (files_added files t))) ≡ Some (files_added files t)
-      → unwrap_or (option_and_then added_of (at_path (after_all o (added_changes files t ++ Create (object_path (delta_name t)) text ∷ [])) (object_path (log_name t)))) [] ≡ files_added files t
-  log_after o [] text none reads =
-      ap (λ (x : Option (List ℕ)). unwrap_or (option_and_then added_of x) []) (at_other o (object_path (delta_name t)) text (object_path (log_name t)) (other_path (log_name t) (delta_name t) named delta_named (λ same. absurd (cc same))) ∙ none)
-  log_after o (file ∷ files) text none reads =
-      let log = compact_text (added_data (files_added (file ∷ files) t)) in
-      ap (λ (x : Option (List ℕ)). unwrap_or (option_and_then added_of x) [])
-      (at_other (finmap.insert o (object_path (log_name t)) log) (object_path (delta_name t)) text (object_path (log_name t)) (other_path (log_name t) (delta_name t) named delta_named (λ same. absurd (cc same))) ∙ at_same o (object_path (log_name t)) log)
-      ∙ ap (λ (x : Option (List AddedFile)). unwrap_or x []) reads
+  log_after : (o : Objects) (files : List FileText) (es : List Entry) (text : List ℕ) → at_path o (object_path (log_name t)) ≡ None → log_of t (log_encoding t es) ≡ Some es → IsDelta (files_added files t) [] es → (key : List ℕ)
+      → payloads_on_key key (unwrap_or (option_and_then (log_of t) (at_path (after_all o (added_changes files t es ++ Create (object_path (delta_name t)) text ∷ [])) (object_path (log_name t)))) []) ≡ option_to_list (delta_on key (files_added files t) [])
+  unfolding payloads_on_key
+  log_after o [] es text none reads is key =
+      ap (λ (x : Option (List ℕ)). payloads_on_key key (unwrap_or (option_and_then (log_of t) x) []))
+      (at_other o (object_path (delta_name t)) text (object_path (log_name t)) (other_path (log_name t) (delta_name t) named delta_named (λ same. absurd (cc same))) ∙ none)
+      ∙ sym (ap (λ (x : Option Payload). option_to_list x) (delta-nothing key))
+  log_after o (file ∷ files) es text none reads is key =
+      ap (λ (x : Option (List ℕ)). payloads_on_key key (unwrap_or (option_and_then (log_of t) x) []))
+      (at_other (finmap.insert o (object_path (log_name t)) (log_encoding t es)) (object_path (delta_name t)) text (object_path (log_name t)) (other_path (log_name t) (delta_name t) named delta_named (λ same. absurd (cc same)))
+      ∙ at_same o (object_path (log_name t)) (log_encoding t es))
+      ∙ ap (λ (x : Option (List Entry)). payloads_on_key key (unwrap_or x [])) reads
+      ∙ is.payloads key
 
-  delta_after : (o : Objects) (files : List FileText) (text : List ℕ) → at_path (after_all o (added_changes files t ++ Create (object_path (delta_name t)) text ∷ [])) (object_path (delta_name t)) ≡ Some text
-  delta_after o [] text = at_same o (object_path (delta_name t)) text
-  delta_after o (file ∷ files) text = at_same _ (object_path (delta_name t)) text
+  delta_after : (o : Objects) (files : List FileText) (es : List Entry) (text : List ℕ) → at_path (after_all o (added_changes files t es ++ Create (object_path (delta_name t)) text ∷ [])) (object_path (delta_name t)) ≡ Some text
+  delta_after o [] es text = at_same o (object_path (delta_name t)) text
+  delta_after o (file ∷ files) es text = at_same _ (object_path (delta_name t)) text
 
-  logs_after : (o : Objects) (files : List FileText) (text : List ℕ) → All (λ (path : List ℕ). IsSome (at_path (after_all o (added_changes files t ++ Create (object_path (delta_name t)) text ∷ [])) path)) (logs_written files t)
-  logs_after o [] text = All-nil _
-  logs_after o (file ∷ files) text =
-      let log = compact_text (added_data (files_added (file ∷ files) t)) in
-      All-cons (λ (path : List ℕ). IsSome (at_path (after_all o (added_changes (file ∷ files) t ++ Create (object_path (delta_name t)) text ∷ [])) path)) (object_path (log_name t)) []
-      (is_some_same _ _ (at_other (finmap.insert o (object_path (log_name t)) log) (object_path (delta_name t)) text (object_path (log_name t)) (other_path (log_name t) (delta_name t) named delta_named (λ same. absurd (cc same))) ∙ at_same o (object_path (log_name t)) log) refl)
+  logs_after : (o : Objects) (files : List FileText) (es : List Entry) (text : List ℕ) → All (λ (path : List ℕ). IsSome (at_path (after_all o (added_changes files t es ++ Create (object_path (delta_name t)) text ∷ [])) path)) (logs_written files t)
+  logs_after o [] es text = All-nil _
+  logs_after o (file ∷ files) es text =
+      All-cons (λ (path : List ℕ). IsSome (at_path (after_all o (added_changes (file ∷ files) t es ++ Create (object_path (delta_name t)) text ∷ [])) path)) (object_path (log_name t)) []
+      (is_some_same _ _ (at_other (finmap.insert o (object_path (log_name t)) (log_encoding t es)) (object_path (delta_name t)) text (object_path (log_name t)) (other_path (log_name t) (delta_name t) named delta_named (λ same. absurd (cc same))) ∙ at_same o (object_path (log_name t)) (log_encoding t es)) refl)
       (All-nil _)
 
   -- ---- what the object names
@@ -234,7 +243,7 @@ module _ (t : ℕ) (meant : 0 < t) (small : t < 10 ^ 17) where
   paths_written (file ∷ files) (w ∷ ws) are =
       All-cons (λ (x : Written). x.stat.path ≡ data_path x.partition x.stat.file_id t) w ws (subst (λ (x : Written). x.stat.path ≡ data_path x.partition x.stat.file_id t) (sym are.0.1) refl) (paths_written files ws are.1)
 
-module _ (files : List FileText) (t : ℕ) (names : All IsFileText files) (apart : AreApartFiles files) (meant : 0 < t) (small : t < 10 ^ 17) (written : List Written) (entries : AreWritten files t written) (meta : CommitMeta) (is_meta : IsMetaOf written meta) (reads : ReadsBack files t meta) where
+module _ (files : List FileText) (t : ℕ) (names : All IsFileText files) (apart : AreApartFiles files) (meant : 0 < t) (small : t < 10 ^ 17) (written : List Written) (entries : AreWritten files t written) (es : List Entry) (is_log : IsDelta (files_added files t) [] es) (meta : CommitMeta) (is_meta : IsMetaOf written meta) (reads : ReadsBack files t es meta) where
   abbrev delta_text : List ℕ
   delta_text = compact_text (delta_meta_data (logs_written files t))
 
@@ -244,32 +253,32 @@ module _ (files : List FileText) (t : ℕ) (names : All IsFileText files) (apart
   abbrev is_delta : IsObjectName (delta_name t)
   is_delta = delta_named t meant small
 
-  early : AreEarly t (early_changes files t)
+  early : AreEarly t (early_changes files t es)
   early = (
     inl (requested_name t, is_named, refl, refl, λ o. empty_object),
     (
       inl (inflight_name t, is_named, refl, refl, λ o. (files_planned files t, reads.planned, planned_all t meant small files names)),
-      both_early t (data_changes files t) (log_changes files t) (data_early t meant small files names) (
+      both_early t (data_changes files t) (log_changes files t es) (data_early t meant small files names) (
         inl (delta_mark t, is_delta, refl, refl, λ o. empty_object),
-        both_early t (added_changes files t) (Create (object_path (delta_name t)) delta_text ∷ []) (added_early t meant small files reads.added)
+        both_early t (added_changes files t es) (Create (object_path (delta_name t)) delta_text ∷ []) (added_early t meant small files es reads.added reads.payloads)
             (inl (delta_name t, is_delta, refl, refl, λ o. (logs_written files t, reads.logs, logs_all t meant small files)), tt),
       ),
     ),
   )
 
-  distinct : AreDistinct (early_changes files t)
+  distinct : AreDistinct (early_changes files t es)
   distinct = (
     (
       other_path (inflight_name t) (requested_name t) is_named is_named (λ same. absurd (cc same)),
-      both_apart (object_path (requested_name t)) (data_changes files t) (log_changes files t) (object_apart t meant small (requested_name t) files names)
-          (logs_apart t meant small (object_path (requested_name t)) files (other_path (delta_mark t) (requested_name t) is_delta is_named (λ same. absurd (cc same)))
+      both_apart (object_path (requested_name t)) (data_changes files t) (log_changes files t es) (object_apart t meant small (requested_name t) files names)
+          (logs_apart t meant small (object_path (requested_name t)) files es (other_path (delta_mark t) (requested_name t) is_delta is_named (λ same. absurd (cc same)))
           (other_path (log_name t) (requested_name t) is_named is_named (λ same. absurd (cc same))) (other_path (delta_name t) (requested_name t) is_delta is_named (λ same. absurd (cc same)))),
     ),
     (
-      both_apart (object_path (inflight_name t)) (data_changes files t) (log_changes files t) (object_apart t meant small (inflight_name t) files names)
-          (logs_apart t meant small (object_path (inflight_name t)) files (other_path (delta_mark t) (inflight_name t) is_delta is_named (λ same. absurd (cc same)))
+      both_apart (object_path (inflight_name t)) (data_changes files t) (log_changes files t es) (object_apart t meant small (inflight_name t) files names)
+          (logs_apart t meant small (object_path (inflight_name t)) files es (other_path (delta_mark t) (inflight_name t) is_delta is_named (λ same. absurd (cc same)))
           (other_path (log_name t) (inflight_name t) is_named is_named (λ same. absurd (cc same))) (other_path (delta_name t) (inflight_name t) is_delta is_named (λ same. absurd (cc same)))),
-      both_distinct (data_changes files t) (log_changes files t) (data_distinct t meant small files names apart) (log_changes_distinct t meant small files) (data_logs t meant small files files names),
+      both_distinct (data_changes files t) (log_changes files t es) (data_distinct t meant small files names apart) (log_changes_distinct t meant small files es) (data_logs t meant small files es files names),
     ),
   )
 
@@ -278,9 +287,9 @@ module _ (files : List FileText) (t : ℕ) (names : All IsFileText files) (apart
   front = file_changes files t ++ Create (object_path (delta_mark t)) (codes "{}") ∷ []
 
   abbrev behind : List Change
-  behind = added_changes files t ++ Create (object_path (delta_name t)) delta_text ∷ []
+  behind = added_changes files t es ++ Create (object_path (delta_name t)) delta_text ∷ []
 
-  splits : front ++ behind ≡ early_changes files t
+  splits : front ++ behind ≡ early_changes files t es
   splits = append_assoc (file_changes files t) (Create (object_path (delta_mark t)) (codes "{}") ∷ []) behind
 
   log_apart : AreApart (object_path (log_name t)) front
@@ -311,29 +320,29 @@ module _ (files : List FileText) (t : ℕ) (names : All IsFileText files) (apart
     pending : ¬ (IsCompleted (objects_of journal) t)
     pending done = omega (arith, above, not_above t done)
 
-    allowed : AreAllowed (objects_of journal) (early_changes files t)
-    allowed = allowed_absent (objects_of journal) (early_changes files t) distinct (all_absent (objects_of journal) last t (early_changes files t) upto above early)
+    allowed : AreAllowed (objects_of journal) (early_changes files t es)
+    allowed = allowed_absent (objects_of journal) (early_changes files t es) distinct (all_absent (objects_of journal) last t (early_changes files t es) upto above early)
 
     abbrev before_it : Objects
-    before_it = objects_of (journal ++ early_changes files t)
+    before_it = objects_of (journal ++ early_changes files t es)
 
     abbrev before_log : Objects
     before_log = after_all (objects_of journal) front
 
     here : before_it ≡ after_all before_log behind
-    here = after_all-append finmap.empty journal (early_changes files t) ∙ ap (after_all (objects_of journal)) (sym splits) ∙ after_all-append (objects_of journal) front behind
+    here = after_all-append finmap.empty journal (early_changes files t es) ∙ ap (after_all (objects_of journal)) (sym splits) ∙ after_all-append (objects_of journal) front behind
 
     no_log : at_path before_log (object_path (log_name t)) ≡ None
     no_log = kept (objects_of journal) (object_path (log_name t)) front log_apart ∙ absent_above (objects_of journal) last t (object_path (log_name t)) upto (inl (log_name t, is_named, refl, refl)) above
 
     completed_before : (at : ℕ) → IsCompleted before_it at → IsCompleted (objects_of journal) at
-    completed_before at done = all_completed_after journal t (early_changes files t) early pending at done
+    completed_before at done = all_completed_after journal t (early_changes files t es) early pending at done
 
-    added : added_at before_it t ≡ files_added files t
-    unfolding added_at
-    added =
-        ap (λ (x : Option (List ℕ)). unwrap_or (option_and_then added_of x) []) (object_at-is before_it (log_name t) is_named ∙ ap (λ (o : Objects). at_path o (object_path (log_name t))) here)
-        ∙ log_after t meant small before_log files delta_text no_log reads.added
+    added : (key : List ℕ) → payloads_on_key key (entries_at before_it t) ≡ option_to_list (delta_on key (files_added files t) [])
+    unfolding entries_at
+    added key =
+        ap (λ (x : Option (List ℕ)). payloads_on_key key (unwrap_or (option_and_then (log_of t) x) [])) (object_at-is before_it (log_name t) is_named ∙ ap (λ (o : Objects). at_path o (object_path (log_name t))) here)
+        ∙ log_after t meant small before_log files es delta_text no_log reads.added is_log key
 
     may_complete : MayComplete before_it t (compact_text (commit_meta_data meta))
     may_complete = record {
@@ -344,27 +353,30 @@ module _ (files : List FileText) (t : ℕ) (names : All IsFileText files) (apart
       reads = reads.completes;
       names = names_files;
       delta = delta_text;
-      delta_at = object_at-is before_it (delta_name t) is_delta ∙ ap (λ (o : Objects). at_path o (object_path (delta_name t))) here ∙ delta_after t meant small before_log files delta_text;
+      delta_at = object_at-is before_it (delta_name t) is_delta ∙ ap (λ (o : Objects). at_path o (object_path (delta_name t))) here ∙ delta_after t meant small before_log files es delta_text;
       logs = logs_written files t;
       delta_reads = reads.logs;
-      stand = subst (λ (o : Objects). All (λ (path : List ℕ). IsSome (at_path o path)) (logs_written files t)) (sym here) (logs_after t meant small before_log files delta_text);
-      logged = λ m. ap (fold with_file m) added ∙ logged_listed files t written meta apart entries is_meta m;
+      stand = subst (λ (o : Objects). All (λ (path : List ℕ). IsSome (at_path o path)) (logs_written files t)) (sym here) (logs_after t meant small before_log files es delta_text);
+      logged = λ m key.
+          ap (λ (ps : List Payload). shown (option_to_list (expected_on key m) ++ ps)) (added key)
+          ∙ shows_after m (files_added files t) [] (All-nil _) key
+          ∙ ap (expected_on key) (logged_listed files t written meta apart entries is_meta m);
     }
 
-    completes : (after : ℕ) → t ≤ after → MayChange (journal ++ early_changes files t) after (completion t meta)
+    completes : (after : ℕ) → t ≤ after → MayChange (journal ++ early_changes files t es) after (completion t meta)
     completes after later = record {
       allowed = may_complete.absent;
       instants = λ at of. subst (λ (x : Option ℕ). unwrap_or x 0 ≤ after) (named_instant (object_path (commit_name t)) (commit_name t) is_named refl at of) later;
-      keeps = λ valid. subst IsValidTable (sym (objects_of-push (journal ++ early_changes files t) (completion t meta)))
+      keeps = λ valid. subst IsValidTable (sym (objects_of-push (journal ++ early_changes files t es) (completion t meta)))
           (completion_keeps before_it (finmap.insert before_it (object_path (commit_name t)) (compact_text (commit_meta_data meta))) t _ may_complete
           (at_same before_it (object_path (commit_name t)) _) (λ other differ. at_other before_it (object_path (commit_name t)) _ other differ) valid);
     }
 
-    from_there : MayChangeInTurn journal t (commit_changes files t meta)
-    from_there = may_all_early journal t t (early_changes files t) (completion t meta ∷ []) early allowed pending (omega arith)
+    from_there : MayChangeInTurn journal t (commit_changes files t es meta)
+    from_there = may_all_early journal t t (early_changes files t es) (completion t meta ∷ []) early allowed pending (omega arith)
         (λ after later then drawn. (completes then (omega (arith, later, drawn_rises (object_path (commit_name t)) after then drawn)), tt))
 
-    may_commit : t ≡ last + 1 → MayChangeInTurn journal last (commit_changes files t meta)
+    may_commit : t ≡ last + 1 → MayChangeInTurn journal last (commit_changes files t es meta)
     may_commit next = λ after drawn. from_there after (again after drawn)
       where
         again : (after : ℕ) → IsDrawnBy (object_path (requested_name t)) last after → IsDrawnBy (object_path (requested_name t)) t after
@@ -375,23 +387,23 @@ module _ (files : List FileText) (t : ℕ) (names : All IsFileText files) (apart
           kept = λ never. absurd (never t (action.Commit, is_named, refl));
         }
 
-  may_commit_told : (opening journal : Option (List Change)) (m : Mirror) (last applied : ℕ) (doubt : Option Change) → Stands opening journal m last applied doubt → t ≡ last + 1 → MayMakeInTurn journal doubt last (commit_changes files t meta)
+  may_commit_told : (opening journal : Option (List Change)) (m : Mirror) (last applied : ℕ) (doubt : Option Change) → Stands opening journal m last applied doubt → t ≡ last + 1 → MayMakeInTurn journal doubt last (commit_changes files t es meta)
   may_commit_told opening None m last applied doubt stands next = tt
   may_commit_told opening (Some journal) m last applied (Some change) stands next = tt
   may_commit_told None (Some journal) m last applied None stands next = absurd (cc stands)
   may_commit_told (Some opening) (Some journal) m last applied None stands next = may_commit journal last stands.instants (omega (arith, next)) next
 
-  commit_plain : All IsPlain (commit_changes files t meta)
-  commit_plain = All-append IsPlain (early_changes files t) (completion t meta ∷ []) (each_early_plain t (early_changes files t) early)
+  commit_plain : All IsPlain (commit_changes files t es meta)
+  commit_plain = All-append IsPlain (early_changes files t es) (completion t meta ∷ []) (each_early_plain t (early_changes files t es) early)
       (All-cons IsPlain (completion t meta) [] (other_path (commit_name t) Config is_named refl (λ same. absurd (cc same))) (All-nil IsPlain))
 
 -- ---- a plan of them
 
 module _ (files : List FileText) (t : ℕ) (written : List Written) (changes : List Change) (names : All IsFileText files) (apart : AreApartFiles files) (meant : 0 < t) (small : t < 10 ^ 17) (entries : AreWritten files t written) (plan : IsPlanOf files written t changes) where
   pub planned_plain : All IsPlain changes
-  planned_plain = subst (All IsPlain) (sym plan.are) (commit_plain files t names apart meant small written entries plan.meta plan.is_meta plan.reads)
+  planned_plain = subst (All IsPlain) (sym plan.are) (commit_plain files t names apart meant small written entries plan.entries plan.is_delta plan.meta plan.is_meta plan.reads)
 
   pub planned_may : (opening journal : Option (List Change)) (m : Mirror) (last applied : ℕ) (doubt : Option Change) → Stands opening journal m last applied doubt → t ≡ last + 1 → MayMakeInTurn journal doubt last changes
   planned_may opening journal m last applied doubt stands next =
       subst (λ (cs : List Change). MayMakeInTurn journal doubt last cs) (sym plan.are)
-      (may_commit_told files t names apart meant small written entries plan.meta plan.is_meta plan.reads opening journal m last applied doubt stands next)
+      (may_commit_told files t names apart meant small written entries plan.entries plan.is_delta plan.meta plan.is_meta plan.reads opening journal m last applied doubt stands next)

@@ -60,32 +60,36 @@ impl Store for Quiet {
 
 const MOMENT: u64 = 20_250_101_000_000_000;
 
+// The log of one file of 5 bytes, as tools/print-index-objects prints it.
+const LOG: &[u8] =
+    b"#HUDI#\x00\x01\x00G\xf1\\\x0c\xc5R\x00\x00\x00\x00\x00\x00\x00\x01\x01DATABLK*\x00\x00\x00\x8d\x00\x0a2024-01-01\x00\x00\x00P\x00\x04\x02\x02\x88\x0111111111-1111-4111-8111-111111111111_0-0-0_20250101000000000.parquet\x0a\x00\x00\x00\x00\x00\x00\x12__all_partitions__\x00\x00\x00\x15\x00\x02\x02\x02\x142024-01-01\x00\x00\x00\x00\x00\x00IDXROOT2\x00\x00\x00\x1c\x00\x00\x00\x01\x00\x00\x00\x00\x00\x00\x00\x00\x00\x00\x00\x99\x00\x0a2024-01-01MDTTRAIL\x00\x00\x00\x01\x00\x00\x00\x00\x00\x00\x00\x00\x00\x00\x00\x99\x00\x00\x00\x00\x00\x00\x00(\x00\x00\x00\x00\x00\x00\x00\x02\x00\x00\x00\x01\x00\x00\x00\x00\x00\x00\x00\x00\x00\x00\x00\x00\x00\x00\x00\x00\x00\x00\x00\x00";
+
 // The objects of a commit of one file, in the order in which they are made.
-const OBJECTS: [(&str, &str); 7] = [
-    (".hoodie/20250101000000000.commit.requested", "{}"),
+const OBJECTS: [(&str, &[u8]); 7] = [
+    (".hoodie/20250101000000000.commit.requested", b"{}"),
     (
         ".hoodie/20250101000000000.inflight",
-        "{\"paths\":[\"2024-01-01/11111111-1111-4111-8111-111111111111_0-0-0_20250101000000000.parquet\"]}",
+        b"{\"paths\":[\"2024-01-01/11111111-1111-4111-8111-111111111111_0-0-0_20250101000000000.parquet\"]}",
     ),
     (
         "2024-01-01/11111111-1111-4111-8111-111111111111_0-0-0_20250101000000000.parquet",
-        "hello",
+        b"hello",
     ),
     (
         ".hoodie/metadata/.hoodie/20250101000000000.deltacommit.inflight",
-        "{}",
+        b"{}",
     ),
     (
         ".hoodie/metadata/files/files-0000_20250101000000000.log",
-        "{\"added\":[{\"name\":\"11111111-1111-4111-8111-111111111111_0-0-0_20250101000000000.parquet\",\"partition\":\"2024-01-01\",\"size\":5}]}",
+        LOG,
     ),
     (
         ".hoodie/metadata/.hoodie/20250101000000000.deltacommit",
-        "{\"logs\":[\".hoodie/metadata/files/files-0000_20250101000000000.log\"]}",
+        b"{\"logs\":[\".hoodie/metadata/files/files-0000_20250101000000000.log\"]}",
     ),
     (
         ".hoodie/20250101000000000.commit",
-        "{\"partitionToWriteStats\":{\"2024-01-01\":[{\"fileId\":\"11111111-1111-4111-8111-111111111111\",\"fileSizeInBytes\":5,\"numWrites\":0,\"path\":\"2024-01-01/11111111-1111-4111-8111-111111111111_0-0-0_20250101000000000.parquet\",\"prevCommit\":\"null\"}]}}",
+        b"{\"partitionToWriteStats\":{\"2024-01-01\":[{\"fileId\":\"11111111-1111-4111-8111-111111111111\",\"fileSizeInBytes\":5,\"numWrites\":0,\"path\":\"2024-01-01/11111111-1111-4111-8111-111111111111_0-0-0_20250101000000000.parquet\",\"prevCommit\":\"null\"}]}}",
     ),
 ];
 
@@ -158,11 +162,11 @@ fn stands(
     alloc: Global,
     table: &mut World<Quiet, Brand>,
     path: &str,
-    text: &str,
+    expected: &[u8],
 ) -> Result<bool, Fail> {
     let path = Path::parse(alloc, path)?;
     match table.read_object(alloc, &path) {
-        Ok(Some(bytes)) => Ok(bytes.as_slice() == text.as_bytes()),
+        Ok(Some(bytes)) => Ok(bytes.as_slice() == expected),
         Ok(None) => Ok(false),
         Err(_) => Err(Fail::new("the object is read")),
     }
@@ -182,8 +186,8 @@ fn a_commit_of_one_file_makes_its_seven_objects(rt: HostRuntime) -> Result<(), F
     assert_eq!(rt; said, "committed");
     assert_eq!(rt; table.seq(), 7);
     assert_eq!(rt; table.last().number(), MOMENT);
-    for (path, text) in OBJECTS {
-        let found = stands(alloc, &mut table, path, text)?;
+    for (path, bytes) in OBJECTS {
+        let found = stands(alloc, &mut table, path, bytes)?;
         assert!(rt; found, "{path}");
     }
     Ok(())

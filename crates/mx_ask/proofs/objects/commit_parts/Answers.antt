@@ -8,5 +8,5 @@ pub returns-in_err-session : goal.returns-in_err-session
 returns-in_err-session c =
     at_none _ _ _ c.from_residual-in_err-session.ensures
     (λ files session rest number is e.
-    let same : rest ≡ members_view c.next_member-2.new.members = search rules in
+    let same : rest ≡ members_view c.next_member.new.members = search rules in
     c.in_err-session.ensures session number (subst (IsSession session) same is))

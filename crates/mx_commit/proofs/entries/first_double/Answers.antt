@@ -1,4 +1,4 @@
-use Rattle.std.proofs.Common.{rules, ◌≡◌, ◌<◌, length, take, get_or, true, false}
+use Rattle.std.proofs.Common.{rules, ◌≡◌, take, get_or, true, false}
 use Rattle.std.specs.List.{list_any}
 use Rattle.mx_commit.specs.Grouping.{is_same_group}
 use Rattle.mx_commit.proofs.EntryLemmas.{apart_next, first_double}

@@ -1,5 +1,9 @@
-use Rattle.std.proofs.Common.{rules, ◌≡◌}
-use Rattle.mx_commit.specs.Changes.{commit_changes}
+use Rattle.std.proofs.Common.{rules, ◌≡◌, List, [], Some, subst}
+use Rattle.mx_base.specs.declared.entry.Entry.{Entry}
+use Rattle.mx_folder.specs.Slices.{log_of}
+use Rattle.mx_log.specs.Encoding.{log_encoding}
+use Rattle.mx_commit.specs.Changes.{commit_changes, files_added}
+use Rattle.mx_commit.proofs.AddedLemmas.{spelled}
 use Rattle.mx_commit.proofs.PlanLemmas.{entries_apart, small_counts}
 use Rattle.mx_commit.proofs.plan.plan_commit.Goals as goal
 
@@ -9,14 +13,18 @@ meta_of-requires c = record { apart = entries_apart c.args.files.now c.args.at c
 pub returns-clause-plan : goal.returns-clause-plan
 returns-clause-plan c =
     let meta = c.in_ok-meta.meta in
-    let are : c.push_completion.new.changes.items ≡ commit_changes c.args.files.now c.args.at meta = search rules in
+    let entries = c.in_ok-entries.entries.items in
+    let are : c.push_completion.new.changes.items ≡ commit_changes c.args.files.now c.args.at entries meta = search rules in
     record {
+      entries = entries;
+      is_delta = c.in_ok-entries.ensures;
       meta = meta;
       is_meta = c.in_ok-meta.ensures;
       are = are;
       reads = record {
         planned = c.in_ok-push_files.ensures.reads;
-        added = c.in_ok-push_logs.ensures.added;
+        added = subst (λ (es : List Entry). log_of c.args.at (log_encoding c.args.at es) ≡ Some es) c.as_slice.ensures.value c.in_ok-push_logs.ensures.added;
+        payloads = spelled (files_added c.args.files.now c.args.at) [] entries c.in_ok-entries.ensures;
         logs = c.in_ok-push_logs.ensures.logs;
         completes = c.in_ok-push_completion.ensures.reads (small_counts c.args.written.now meta c.in_ok-meta.ensures c.in_ok-check_counts.ensures);
       };

@@ -1,4 +1,4 @@
-use Rattle.std.proofs.Common.{rules, subst, sym}
+use Rattle.std.proofs.Common.{subst}
 use Rattle.std.proofs.lemmas.List.Elements.{All-more}
 use Rattle.mx_ask.specs.Asks.{IsFileText}
 use Rattle.mx_commit.proofs.PlanLemmas.{data_next}

@@ -2,7 +2,7 @@ use Rattle.std.proofs.Common.{◌≡◌, drop, map}
 use Rattle.std.specs.List.{fold, flat_map}
 use Rattle.mx_meta.specs.declared.commit_meta.PartitionStats.{PartitionStats}
 use Rattle.mx_model.specs.Listing.{file_of, files_of}
-use Rattle.mx_model.specs.Maps.{with_file}
+use Rattle.mx_files.specs.Files.{with_file}
 use Rattle.mx_model.proofs.program.add_action.Given as goal
 
 abbrev pub invariant-loop-stats : goal.invariant-loop-stats

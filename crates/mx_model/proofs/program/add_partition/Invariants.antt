@@ -1,7 +1,7 @@
 use Rattle.std.proofs.Common.{◌≡◌, drop, map}
 use Rattle.std.specs.List.{fold}
 use Rattle.mx_model.specs.Listing.{file_of}
-use Rattle.mx_model.specs.Maps.{with_file}
+use Rattle.mx_files.specs.Files.{with_file}
 use Rattle.mx_model.proofs.program.add_partition.Given as goal
 
 abbrev pub invariant-loop-stat : goal.invariant-loop-stat

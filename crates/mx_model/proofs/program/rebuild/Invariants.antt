@@ -2,7 +2,8 @@ use Rattle.std.proofs.Common.{◌≡◌, drop}
 use Rattle.std.specs.List.{fold}
 use Rattle.mx_model.specs.Timeline.{actions_upto}
 use Rattle.mx_model.specs.Listing.{listed_files}
-use Rattle.mx_model.specs.Maps.{with_file, maps_of}
+use Rattle.mx_files.specs.Files.{with_file}
+use Rattle.mx_model.specs.Maps.{maps_of}
 use Rattle.mx_model.proofs.program.rebuild.Given as goal
 
 abbrev pub invariant-loop-action : goal.invariant-loop-action

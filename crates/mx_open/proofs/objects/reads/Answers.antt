@@ -12,4 +12,4 @@ pub returns-in-Metadata : goal.returns-in-Metadata
 returns-in-Metadata c objects is = subst (λ (name : ObjectName). IfOk c.reads_as_metadata.result (λ (b : Bool). Decides b (Reads objects name c.args.bytes.now))) (sym c.in-Metadata.is) (c.reads_as_metadata.ensures objects)
 
 pub returns-in-Base : goal.returns-in-Base
-returns-in-Base c objects is = subst (λ (name : ObjectName). Decides c.reads_as_base.result (Reads objects name c.args.bytes.now)) (sym c.in-Base.is) (c.reads_as_base.ensures objects c.in-Base.shard is)
+returns-in-Base c objects is = subst (λ (name : ObjectName). IfOk c.reads_as_base.result (λ (b : Bool). Decides b (Reads objects name c.args.bytes.now))) (sym c.in-Base.is) (c.reads_as_base.ensures objects c.in-Base.shard is)

@@ -1,5 +1,5 @@
 use Rattle.std.proofs.Common.{◌≡◌, IfOk, sym, ◌∙◌, ap, subst, Some, None}
-use Rattle.mx_model.specs.Maps.{NumberMap}
+use Rattle.mx_merge.specs.Shown.{SizeMap}
 use Rattle.mx_model.specs.Answer.{file_sizes}
 use Rattle.mx_model.proofs.TreeLemmas.{sizes_in-tree, file_sizes-empty}
 use Rattle.mx_model.proofs.maps.Maps.file_sizes.Goals as goal
@@ -7,7 +7,7 @@ use Rattle.mx_model.proofs.maps.Maps.file_sizes.Goals as goal
 pub returns-in-Some : goal.returns-in-Some
 returns-in-Some c =
     let sizes = sizes_in-tree c.self.inside.partitions c.args.self.now c.self.view_is c.args.partition.now (Some c.in-Some.sizes.now) c.in-Some.ensures.value in
-    subst (λ (s : NumberMap). IfOk c.file_sizes.result (λ files. files ≡ file_sizes s)) (sym sizes) c.file_sizes.ensures
+    subst (λ (s : SizeMap). IfOk c.file_sizes.result (λ files. files ≡ file_sizes s)) (sym sizes) c.file_sizes.ensures
 
 pub returns-in-None : goal.returns-in-None
 returns-in-None c =

@@ -1,0 +1,8 @@
+pub mod MapLemmas
+pub mod TreeLemmas
+pub mod WordLemmas
+pub mod PartitionLemmas
+pub mod DeltaLemmas
+pub mod RuleLemmas
+pub mod SaidLemmas
+pub mod EntryLemmas

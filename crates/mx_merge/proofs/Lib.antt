@@ -1,0 +1,7 @@
+pub mod TreeLemmas
+pub mod SizeLemmas
+pub mod RunLemmas
+pub mod ValueLemmas
+pub mod MetLemmas
+pub mod EntryLemmas
+pub mod MergeLemmas

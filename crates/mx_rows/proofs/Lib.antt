@@ -1,0 +1,4 @@
+mod CellLemmas
+mod DoubleLemmas
+mod FillLemmas
+mod TakenLemmas

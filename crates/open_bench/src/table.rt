@@ -13,7 +13,7 @@ use std::io;
 use std::marker::Brand;
 
 /// A store in memory with a table of so many commits of one file.
-pub fn table_of(alloc: Global, commits: u32) -> io::Result<MemStore> {
+pub(crate) fn table_of(alloc: Global, commits: u32) -> io::Result<MemStore> {
     let Ok(schema) = Schema::parse(alloc, "a:int64") else {
         return Err(refused());
     };
@@ -25,7 +25,7 @@ pub fn table_of(alloc: Global, commits: u32) -> io::Result<MemStore> {
 }
 
 /// The store once the table in it was opened.
-pub fn opened(alloc: Global, store: MemStore) -> io::Result<MemStore> {
+pub(crate) fn opened(alloc: Global, store: MemStore) -> io::Result<MemStore> {
     filled::<Brand>(alloc, store, first_moment(), 0)
 }
 

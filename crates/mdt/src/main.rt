@@ -13,6 +13,8 @@ ghost use Rattle.std.specs.Prelude.{◌≡◌, ◌<◌, IfOk, Some, option_map, 
 ghost use Rattle.mdt.specs.Ends.{exit_code, message};
 
 mod command;
+#[cfg(test)]
+mod row_tests;
 mod standard;
 mod status;
 #[cfg(test)]

@@ -1,4 +1,4 @@
-ghost use Rattle.std.specs.Prelude.{◌≡◌, Some};
+ghost use Rattle.std.specs.Prelude.{◌≡◌, ◌≢◌, Some};
 
 use crate::command::{Ended, command};
 use crate::{code_of, message_of};
@@ -14,18 +14,18 @@ const MOMENT: u64 = 20_250_101_000_000_000;
 
 // A look-up, a commit and the look-up once more.
 static FIRST_LINES: &[u8] =
-    b"{\"ask\":\"files\",\"partition\":\"2024-01-01\"}\n{\"ask\":\"commit\",\"files\":[{\"file\":\"11111111-1111-4111-8111-111111111111\",\"partition\":\"2024-01-01\",\"text\":\"hello\"}]}\n{\"ask\":\"files\",\"partition\":\"2024-01-01\"}\n";
+    b"{\"ask\":\"files\",\"partition\":\"2024-01-01\"}\n{\"ask\":\"commit\",\"files\":[{\"file\":\"11111111-1111-4111-8111-111111111111\",\"partition\":\"2024-01-01\",\"rows\":[[\"a\",1]]}]}\n{\"ask\":\"files\",\"partition\":\"2024-01-01\"}\n";
 
 static LOOK_UP: &[u8] = b"{\"ask\":\"files\",\"partition\":\"2024-01-01\"}\n";
 
 static FIRST_REPLIES: &[u8] =
-    b"{\"at\":\"00000000000000000\",\"files\":[],\"ok\":\"files\",\"seq\":0}\n{\"files\":[\"2024-01-01/11111111-1111-4111-8111-111111111111_0-0-0_20250101000000000.parquet\"],\"instant\":\"20250101000000000\",\"ok\":\"commit\",\"seq\":7}\n{\"at\":\"20250101000000000\",\"files\":[{\"name\":\"11111111-1111-4111-8111-111111111111_0-0-0_20250101000000000.parquet\",\"size\":5}],\"ok\":\"files\",\"seq\":7}\n";
+    b"{\"at\":\"00000000000000000\",\"files\":[],\"ok\":\"files\",\"seq\":0}\n{\"files\":[\"2024-01-01/11111111-1111-4111-8111-111111111111_0-0-0_20250101000000000.parquet\"],\"instant\":\"20250101000000000\",\"ok\":\"commit\",\"seq\":7}\n{\"at\":\"20250101000000000\",\"files\":[{\"name\":\"11111111-1111-4111-8111-111111111111_0-0-0_20250101000000000.parquet\",\"size\":693}],\"ok\":\"files\",\"seq\":7}\n";
 
 // The reply of a look-up that finds nothing, and of one that finds the file, without the number of changes.
 const NOTHING: &str = "{\"at\":\"00000000000000000\",\"files\":[],\"ok\":\"files\",\"seq\":";
 
 const FOUND: &str =
-    "{\"at\":\"20250101000000000\",\"files\":[{\"name\":\"11111111-1111-4111-8111-111111111111_0-0-0_20250101000000000.parquet\",\"size\":5}],\"ok\":\"files\",\"seq\":";
+    "{\"at\":\"20250101000000000\",\"files\":[{\"name\":\"11111111-1111-4111-8111-111111111111_0-0-0_20250101000000000.parquet\",\"size\":693}],\"ok\":\"files\",\"seq\":";
 
 const COMMITTED: &str =
     "{\"files\":[\"2024-01-01/11111111-1111-4111-8111-111111111111_0-0-0_20250101000000000.parquet\"],\"instant\":\"20250101000000000\",\"ok\":\"commit\",\"seq\":";
@@ -34,28 +34,26 @@ const FAULT: &str = "{\"refused\":\"StoreFault\",\"seq\":";
 
 // What a command leaves.
 #[derive(Drop)]
-struct Left {
-    code: u8,
+pub(crate) struct Left {
+    pub(crate) code: u8,
     message: String,
-    written: Vec<u8>,
-    store: MemStore,
+    pub(crate) written: Vec<u8>,
+    pub(crate) store: MemStore,
 }
 
 fn run_over<N: Named>(
     alloc: Global,
+    now: Instant,
     store: MemStore,
     words: &[String],
     mut source: BytesSource,
     mut sink: BytesSink,
 ) -> Result<Left, Fail>
+    requires meant { now ≢ 0 }
     requires opening { N.opening ≡ Some store.changes }
     requires count { N.count ≡ store.faults }
-    requires moment { N.moment ≡ 20250101000000000 }
+    requires moment { N.moment ≡ now }
 {
-    let now = match Instant::new(MOMENT) {
-        Some(at) => at,
-        None => unreachable!(),
-    };
     let Ended {
         status,
         store,
@@ -97,20 +95,45 @@ fn input(alloc: Global, bytes: &[u8], cuts: &[usize], fails: &[u64]) -> Result<B
     ))
 }
 
-fn run(alloc: Global, store: MemStore, words: &[&str], lines: &[u8]) -> Result<Left, Fail> {
+// The call at the moment of this number.
+fn run_at(
+    alloc: Global,
+    moment: u64,
+    store: MemStore,
+    words: &[&str],
+    source: BytesSource,
+    sink: BytesSink,
+) -> Result<Left, Fail> {
     let words = words_of(alloc, words)?;
+    match Instant::new(moment) {
+        Some(now) if now.number() != 0 => {
+            run_over::<Brand>(alloc, now, store, words.as_slice(), source, sink)
+        }
+        _ => Err(Fail::new("the moment is one")),
+    }
+}
+
+pub(crate) fn run(
+    alloc: Global,
+    store: MemStore,
+    words: &[&str],
+    lines: &[u8],
+) -> Result<Left, Fail> {
     let source = input(alloc, lines, &[], &[])?;
-    run_over::<Brand>(
-        alloc,
-        store,
-        words.as_slice(),
-        source,
-        BytesSink::empty(alloc, Vec::new(alloc)),
-    )
+    let sink = BytesSink::empty(alloc, Vec::new(alloc));
+    run_at(alloc, MOMENT, store, words, source, sink)
+}
+
+// The call at the last moment.
+pub(crate) fn run_late(alloc: Global, store: MemStore, lines: &[u8]) -> Result<Left, Fail> {
+    let source = input(alloc, lines, &[], &[])?;
+    let sink = BytesSink::empty(alloc, Vec::new(alloc));
+    let words = ["serve", "work"];
+    run_at(alloc, 99_999_999_999_999_999, store, &words, source, sink)
 }
 
 // A store of a new table, which made five calls: a list and four creates.
-fn new_table(alloc: Global) -> Result<MemStore, Fail> {
+pub(crate) fn new_table(alloc: Global) -> Result<MemStore, Fail> {
     let mut store = MemStore::empty(alloc);
     let Ok(schema) = Schema::parse(alloc, "a:int64") else {
         return Err(Fail::new("the schema is one"));
@@ -129,13 +152,13 @@ fn failing_table(alloc: Global, call: u64, applied: bool) -> Result<MemStore, Fa
 }
 
 // The bytes that were written, and the exit status.
-fn served(alloc: Global, store: MemStore, lines: &[u8]) -> Result<(u8, Vec<u8>), Fail> {
+pub(crate) fn served(alloc: Global, store: MemStore, lines: &[u8]) -> Result<(u8, Vec<u8>), Fail> {
     let left = run(alloc, store, &["serve", "work"], lines)?;
     Ok((left.code, left.written))
 }
 
 // These beginnings of replies, each with its number of changes.
-fn replies(alloc: Global, parts: &[(&str, u64)]) -> Result<Vec<u8>, Fail> {
+pub(crate) fn replies(alloc: Global, parts: &[(&str, u64)]) -> Result<Vec<u8>, Fail> {
     let mut text = String::new(alloc);
     for &(part, seq) in parts {
         text.push_str(format!(in alloc; "{part}{seq}}}\n")?.as_str())?;
@@ -144,10 +167,10 @@ fn replies(alloc: Global, parts: &[(&str, u64)]) -> Result<Vec<u8>, Fail> {
 }
 
 fn serves_alike(alloc: Global, cut: usize) -> Result<bool, Fail> {
-    let words = words_of(alloc, &["serve", "work"])?;
     let source = input(alloc, FIRST_LINES, &[cut], &[])?;
     let sink = BytesSink::empty(alloc, Vec::new(alloc));
-    let left = run_over::<Brand>(alloc, new_table(alloc)?, words.as_slice(), source, sink)?;
+    let words = ["serve", "work"];
+    let left = run_at(alloc, MOMENT, new_table(alloc)?, &words, source, sink)?;
     Ok(left.code == 0 && left.written.as_slice() == FIRST_REPLIES)
 }
 
@@ -162,10 +185,10 @@ fn a_file_is_shown_once_its_commit_is_complete(rt: HostRuntime) -> Result<(), Fa
 
 // A commit, and look-ups before it, at it, and above the newest one.
 static LINES_AT: &[u8] =
-    b"{\"ask\":\"commit\",\"files\":[{\"file\":\"11111111-1111-4111-8111-111111111111\",\"partition\":\"2024-01-01\",\"text\":\"hello\"}],\"session\":64}\n{\"ask\":\"files\",\"at\":\"00000000000000000\",\"partition\":\"2024-01-01\"}\n{\"ask\":\"files\",\"at\":\"20250101000000000\",\"partition\":\"2024-01-01\",\"session\":2}\n{\"ask\":\"files\",\"at\":\"99999999999999999\",\"partition\":\"2024-01-01\"}\n";
+    b"{\"ask\":\"commit\",\"files\":[{\"file\":\"11111111-1111-4111-8111-111111111111\",\"partition\":\"2024-01-01\",\"rows\":[[\"a\",1]]}],\"session\":64}\n{\"ask\":\"files\",\"at\":\"00000000000000000\",\"partition\":\"2024-01-01\"}\n{\"ask\":\"files\",\"at\":\"20250101000000000\",\"partition\":\"2024-01-01\",\"session\":2}\n{\"ask\":\"files\",\"at\":\"99999999999999999\",\"partition\":\"2024-01-01\"}\n";
 
 const FOUND_ABOVE: &str =
-    "{\"at\":\"99999999999999999\",\"files\":[{\"name\":\"11111111-1111-4111-8111-111111111111_0-0-0_20250101000000000.parquet\",\"size\":5}],\"ok\":\"files\",\"seq\":";
+    "{\"at\":\"99999999999999999\",\"files\":[{\"name\":\"11111111-1111-4111-8111-111111111111_0-0-0_20250101000000000.parquet\",\"size\":693}],\"ok\":\"files\",\"seq\":";
 
 #[test]
 fn a_look_up_shows_the_files_of_the_instant_that_it_asks_for(rt: HostRuntime) -> Result<(), Fail> {
@@ -180,13 +203,13 @@ fn a_look_up_shows_the_files_of_the_instant_that_it_asks_for(rt: HostRuntime) ->
 // The partitions of a new table, a commit of two files in two partitions, a look-up of each and of the partitions, and a
 // commit of no files.
 static LINES_OF_TWO: &[u8] =
-    b"{\"ask\":\"partitions\"}\n{\"ask\":\"commit\",\"files\":[{\"file\":\"22222222-2222-4222-8222-222222222222\",\"partition\":\"2024-01-02\",\"text\":\"x\"},{\"file\":\"11111111-1111-4111-8111-111111111111\",\"partition\":\"2024-01-01\",\"text\":\"hello\"}]}\n{\"ask\":\"files\",\"partition\":\"2024-01-01\"}\n{\"ask\":\"files\",\"partition\":\"2024-01-02\"}\n{\"ask\":\"partitions\",\"session\":2}\n{\"ask\":\"partitions\",\"at\":\"00000000000000000\"}\n{\"ask\":\"commit\",\"files\":[]}\n";
+    b"{\"ask\":\"partitions\"}\n{\"ask\":\"commit\",\"files\":[{\"file\":\"22222222-2222-4222-8222-222222222222\",\"partition\":\"2024-01-02\",\"rows\":[[\"b\",2]]},{\"file\":\"11111111-1111-4111-8111-111111111111\",\"partition\":\"2024-01-01\",\"rows\":[[\"a\",1]]}]}\n{\"ask\":\"files\",\"partition\":\"2024-01-01\"}\n{\"ask\":\"files\",\"partition\":\"2024-01-02\"}\n{\"ask\":\"partitions\",\"session\":2}\n{\"ask\":\"partitions\",\"at\":\"00000000000000000\"}\n{\"ask\":\"commit\",\"files\":[]}\n";
 
 const COMMITTED_TWO: &str =
     "{\"files\":[\"2024-01-02/22222222-2222-4222-8222-222222222222_0-0-0_20250101000000000.parquet\",\"2024-01-01/11111111-1111-4111-8111-111111111111_0-0-0_20250101000000000.parquet\"],\"instant\":\"20250101000000000\",\"ok\":\"commit\",\"seq\":";
 
 const FOUND_OTHER: &str =
-    "{\"at\":\"20250101000000000\",\"files\":[{\"name\":\"22222222-2222-4222-8222-222222222222_0-0-0_20250101000000000.parquet\",\"size\":1}],\"ok\":\"files\",\"seq\":";
+    "{\"at\":\"20250101000000000\",\"files\":[{\"name\":\"22222222-2222-4222-8222-222222222222_0-0-0_20250101000000000.parquet\",\"size\":693}],\"ok\":\"files\",\"seq\":";
 
 const NO_PARTITIONS: &str =
     "{\"at\":\"00000000000000000\",\"ok\":\"partitions\",\"partitions\":[],\"seq\":";
@@ -222,11 +245,11 @@ fn commit_of(alloc: Global, count: u32) -> Result<String, Fail> {
     let mut line = String::from_str(alloc, "{\"ask\":\"commit\",\"files\":[")?;
     for number in 0..count {
         line.push_str(format!(in alloc;
-            "{{\"file\":\"{number:08}-1111-4111-8111-111111111111\",\"partition\":\"2024-01-01\",\"text\":\"\"}},"
+            "{{\"file\":\"{number:08}-1111-4111-8111-111111111111\",\"partition\":\"2024-01-01\",\"rows\":[]}},"
         )?.as_str())?;
     }
     line.push_str(
-        "{\"file\":\"00000000-1111-4111-8111-111111111111\",\"partition\":\"2024-01-01\",\"text\":\"\"}]}\n",
+        "{\"file\":\"00000000-1111-4111-8111-111111111111\",\"partition\":\"2024-01-01\",\"rows\":[]}]}\n",
     )?;
     Ok(line)
 }
@@ -266,10 +289,10 @@ fn a_source_that_is_cut_anywhere_gives_the_same_replies(rt: HostRuntime) -> Resu
 
 // The exit status and the number of replies where this call of the source, and this one of the sink, fails.
 fn streamed(alloc: Global, source_fails: &[u64], sink_fails: &[u64]) -> Result<(u8, usize), Fail> {
-    let words = words_of(alloc, &["serve", "work"])?;
     let source = input(alloc, FIRST_LINES, &[], source_fails)?;
     let sink = BytesSink::empty(alloc, Vec::from_slice(alloc, sink_fails)?);
-    let left = run_over::<Brand>(alloc, new_table(alloc)?, words.as_slice(), source, sink)?;
+    let words = ["serve", "work"];
+    let left = run_at(alloc, MOMENT, new_table(alloc)?, &words, source, sink)?;
     if !FIRST_REPLIES.starts_with(left.written.as_slice()) {
         return Err(Fail::new("the replies are the first ones"));
     }

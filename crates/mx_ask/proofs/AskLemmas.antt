@@ -1,56 +1,32 @@
 -- Parts of an ask as JSON, and that a line is at most one ask.
-use Rattle.std.proofs.Common.{◌≡◌, ℕ, zero, suc, ◌<◌, ◌+◌, List, [], ◌∷◌, ◌++◌, length, take, get_or, map, All, refl, sym, ap, subst, ◌∙◌, arith}
+use Rattle.std.proofs.Common.{◌≡◌, ℕ, List, map, sym, ap, subst, ◌∙◌}
 use Rattle.std.specs.Prelude.{codes}
-use Rattle.std.proofs.lemmas.List.{take_more, map_push}
-use Rattle.std.proofs.lemmas.List.Elements.{All-head, All-tail}
 use Rattle.serde_json.specs.Data.{Data, string, object, Members, no_members, member}
-use Rattle.serde_json.specs.View.{view, items_of, items_view}
-use Rattle.serde_json.specs.declared.value.Value.{Value}
+use Rattle.serde_json.specs.View.{items_of}
+use Rattle.mx_schema.specs.declared.row.RowValue.{RowValue}
 use Rattle.mx_text.specs.Plain.{Spells}
 use Rattle.mx_ask.specs.declared.ask.Ask.{Ask}
 use Rattle.mx_ask.specs.declared.ask.AskKind.{AskKind}
-use Rattle.mx_ask.specs.declared.ask.FileText.{FileText}
+use Rattle.mx_ask.specs.declared.ask.FileRows.{FileRows}
 use Rattle.mx_ask.specs.declared.ask.Question.{Question}
-use Rattle.mx_ask.specs.Asks.{file_data, with_at, kind_data, IsFileText, IsSession, IsNamedKind, IsNamed, IsAskData, IsAsk}
+use Rattle.mx_ask.specs.Rows.{rows_data}
+use Rattle.mx_ask.specs.Asks.{file_data, with_at, kind_data, IsSession, IsNamedKind, IsNamed, IsAskData, IsAsk}
+use Rattle.mx_ask.proofs.ItemLemmas.{items-injective}
 use Rattle.mx_ask.proofs.ObjectLemmas.{IsSession-without_at, with_at-injective}
+use Rattle.mx_ask.proofs.RowLemmas.{rows_data-injective}
 
-pub file_data-id : (file : FileText) (a b d : Data) → object (member (codes "file") a (member (codes "partition") b (member (codes "text") d no_members))) ≡ file_data file → a ≡ string file.file
+pub file_data-id : (file : FileRows) (a b d : Data) → object (member (codes "file") a (member (codes "partition") b (member (codes "rows") d no_members))) ≡ file_data file → a ≡ string file.file
 file_data-id file a b d e = cc
 
-file_data-injective : (a b : FileText) → file_data a ≡ file_data b → a ≡ b
+file_data-injective : (a b : FileRows) → file_data a ≡ file_data b → a ≡ b
 file_data-injective a b e =
-    let parts : (a.file, (a.partition, a.text)) ≡ (b.file, (b.partition, b.text)) = cc in
-    ap (λ (p : List ℕ × (List ℕ × List ℕ)). record { file = p.0; partition = p.1.0; text = p.1.1 }) parts
+    let rows : rows_data a.rows ≡ rows_data b.rows = cc in
+    let same : a.rows ≡ b.rows = rows_data-injective a.rows b.rows rows in
+    let parts : (a.file, (a.partition, a.rows)) ≡ (b.file, (b.partition, b.rows)) = cc in
+    ap (λ (p : List ℕ × (List ℕ × List (List RowValue))). record { file = p.0; partition = p.1.0; rows = p.1.1 }) parts
 
-files-injective : (xs ys : List FileText) → items_of (map file_data xs) ≡ items_of (map file_data ys) → xs ≡ ys
-files-injective [] [] e = refl
-files-injective [] (y ∷ ys) e = cc
-files-injective (x ∷ xs) [] e = cc
-files-injective (x ∷ xs) (y ∷ ys) e =
-    let head : file_data x ≡ file_data y = cc in
-    let tail : items_of (map file_data xs) ≡ items_of (map file_data ys) = cc in
-    let first : x ≡ y = file_data-injective x y head in
-    let others : xs ≡ ys = files-injective xs ys tail in
-    cc
-
--- one file more
-pub files_more : (values : List Value) (files new : List FileText) (file : FileText) (v : Value) (i : ℕ) → map view (take i values) ≡ map file_data files → view v ≡ file_data file → new ≡ files ++ file ∷ [] → i < length values → v ≡ get_or values i v → map view (take (i + 1) values) ≡ map file_data new
-files_more values files new file v i so_far reads pushed within is =
-    ap (map view) (take_more values i v within ∙ ap (λ (x : Value). take i values ++ x ∷ []) (sym is))
-    ∙ map_push view (take i values) v
-    ∙ ap (λ (d : Data). map view (take i values) ++ d ∷ []) reads
-    ∙ ap (λ (ds : List Data). ds ++ file_data file ∷ []) so_far
-    ∙ sym (map_push file_data files file)
-    ∙ ap (map file_data) (sym pushed)
-
--- each item of a list of files is a file
-pub file_at : (values : List Value) (files : List FileText) (i : ℕ) (d : Value) → items_view values ≡ items_of (map file_data files) → All IsFileText files → i < length values → (file : FileText) × IsFileText file × (view (get_or values i d) ≡ file_data file)
-file_at [] files i d e named within = absurd (omega (arith, within))
-file_at (v ∷ vs) [] i d e named within = absurd (cc e)
-file_at (v ∷ vs) (f ∷ fs) zero d e named within = (f, All-head IsFileText f fs named, cc)
-file_at (v ∷ vs) (f ∷ fs) (suc i) d e named within =
-    let tail : items_view vs ≡ items_of (map file_data fs) = cc in
-    file_at vs fs i d tail (All-tail IsFileText f fs named) (omega (arith, within))
+files-injective : (xs ys : List FileRows) → items_of (map file_data xs) ≡ items_of (map file_data ys) → xs ≡ ys
+files-injective xs ys e = items-injective file_data file_data-injective xs ys e
 
 -- a JSON value asks for one thing, and the rest behind it is one
 kind_data-injective : (a b : AskKind) (session other : ℕ) (xs ys : Members) → IsNamedKind a → IsNamedKind b → IsSession session xs → IsSession other ys → kind_data a xs ≡ kind_data b ys → (a ≡ b) × (xs ≡ ys)

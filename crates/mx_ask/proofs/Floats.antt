@@ -21,6 +21,9 @@ refusal_data_no_float Refusal.StoreFault seq = refl
 refusal_data_no_float (Refusal.Changed path) seq = refl
 refusal_data_no_float (Refusal.TooMany what count) seq = refl
 refusal_data_no_float (Refusal.DuplicateGroup partition file) seq = refl
+refusal_data_no_float (Refusal.BadRow file row column) seq = refl
+refusal_data_no_float (Refusal.DuplicateRow key) seq = refl
+refusal_data_no_float (Refusal.TooLarge bytes) seq = refl
 refusal_data_no_float (Refusal.Expired floor) seq = refl
 
 pub reply_data_no_float : (reply : Reply) (seq : ℕ) → has_float (reply_data reply seq) ≡ false

@@ -7,12 +7,13 @@ use Rattle.mx_base.specs.Digits.{instant_text}
 use Rattle.mx_base.specs.Names.{IsFileId, IsPartition}
 use Rattle.mx_ask.specs.declared.ask.Ask.{Ask}
 use Rattle.mx_ask.specs.declared.ask.AskKind.{AskKind}
-use Rattle.mx_ask.specs.declared.ask.FileText.{FileText}
+use Rattle.mx_ask.specs.declared.ask.FileRows.{FileRows}
 use Rattle.mx_ask.specs.declared.ask.Question.{Question}
+use Rattle.mx_ask.specs.Rows.{rows_data, IsRow}
 
 -- a file that a commit adds
-abbrev pub file_data : FileText → Data
-file_data file = object (member (codes "file") (string file.file) (member (codes "partition") (string file.partition) (member (codes "text") (string file.text) no_members)))
+abbrev pub file_data : FileRows → Data
+file_data file = object (member (codes "file") (string file.file) (member (codes "partition") (string file.partition) (member (codes "rows") (rows_data file.rows) no_members)))
 
 -- the instant to look at in front of the other members, where there is one
 abbrev pub with_at : Option ℕ → Members → Members
@@ -54,19 +55,20 @@ IsSessionNumber session = (1 ≤ session) × (session ≤ 64)
 abbrev pub IsMoment : Option ℕ → Type 0
 IsMoment at = IfSome at (λ instant. instant < 10 ^ 17)
 
--- a file's id and partition are such
-pub record IsFileText (file : FileText) : Type 0 where
+-- a file's id and partition are such, and its integers have 64 bits
+pub record IsFileRows (file : FileRows) : Type 0 where
   pub id : IsFileId file.file
   pub partition : IsPartition file.partition
+  pub rows : All IsRow file.rows
 
 -- the partition that a question names is one
 abbrev pub IsNamedQuestion : Question → Type 0
 IsNamedQuestion (Question.Files partition) = IsPartition partition
 IsNamedQuestion Question.Partitions = Unit {0}
 
--- ids, partitions and instants are such
+-- ids, partitions, integers and instants are such
 abbrev pub IsNamedKind : AskKind → Type 0
-IsNamedKind (AskKind.Commit files) = All IsFileText files
+IsNamedKind (AskKind.Commit files) = All IsFileRows files
 IsNamedKind (AskKind.LookUp question at) = IsNamedQuestion question × IsMoment at
 
 -- an ask's session and names are such

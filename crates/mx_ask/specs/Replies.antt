@@ -16,6 +16,7 @@ plain_refusal word seq = object (member (codes "refused") (string word) (member 
 -- the word for what there is too much of
 abbrev pub limit_word : Limit → List ℕ
 limit_word Limit.Files = codes "files"
+limit_word Limit.Rows = codes "rows"
 limit_word Limit.Instants = codes "instants"
 limit_word Limit.Live = codes "live"
 
@@ -31,6 +32,12 @@ refusal_data (Refusal.TooMany what count) seq =
     object (member (codes "count") (number (unsigned count)) (member (codes "refused") (string (codes "TooMany")) (member (codes "seq") (number (unsigned seq)) (member (codes "what") (string (limit_word what)) no_members))))
 refusal_data (Refusal.DuplicateGroup partition file) seq =
     object (member (codes "file") (string file) (member (codes "partition") (string partition) (member (codes "refused") (string (codes "DuplicateGroup")) (member (codes "seq") (number (unsigned seq)) no_members))))
+refusal_data (Refusal.BadRow file row column) seq =
+    object (member (codes "column") (number (unsigned column)) (member (codes "file") (number (unsigned file)) (member (codes "refused") (string (codes "BadRow")) (member (codes "row") (number (unsigned row)) (member (codes "seq") (number (unsigned seq)) no_members)))))
+refusal_data (Refusal.DuplicateRow key) seq =
+    object (member (codes "key") (string key) (member (codes "refused") (string (codes "DuplicateRow")) (member (codes "seq") (number (unsigned seq)) no_members)))
+refusal_data (Refusal.TooLarge bytes) seq =
+    object (member (codes "bytes") (number (unsigned bytes)) (member (codes "refused") (string (codes "TooLarge")) (member (codes "seq") (number (unsigned seq)) no_members)))
 refusal_data (Refusal.Expired floor) seq =
     object (member (codes "floor") (string (instant_text floor)) (member (codes "refused") (string (codes "Expired")) (member (codes "seq") (number (unsigned seq)) no_members)))
 

@@ -1,12 +1,13 @@
 use mx_base::{FileId, Instant, Partition};
-use mx_lists::{Listed, Text};
+use mx_lists::Listed;
+use mx_schema::Row;
 
-/// The text of a data file, with the group and the partition that it belongs to.
+/// The rows of a data file, with the group and the partition that it belongs to.
 #[derive(Debug, Drop)]
-pub struct FileText {
+pub struct FileRows {
     pub file: FileId,
     pub partition: Partition,
-    pub text: Text,
+    pub rows: Listed<Row>,
 }
 
 /// What a client asks of a table, and the session that the ask belongs to.
@@ -22,7 +23,7 @@ pub struct Ask {
 pub enum AskKind {
     /// Add files to the table.
     Commit {
-        files: Listed<FileText>,
+        files: Listed<FileRows>,
     },
     /// Answer a question about the table as it is at an instant, or at the newest commit.
     LookUp {

@@ -56,6 +56,15 @@ fn refusal_value(alloc: Global, refusal: &Refusal, seq: u64) -> Result<Value, Al
         Refusal::DuplicateGroup { partition, file } => {
             duplicate_value(alloc, partition, file, seq)
         }
+        Refusal::BadRow { file, row, column } => {
+            json!(in alloc; {"column": *column, "file": *file, "refused": "BadRow", "row": *row, "seq": seq})
+        }
+        Refusal::DuplicateRow { key } => {
+            json!(in alloc; {"key": key.as_str(), "refused": "DuplicateRow", "seq": seq})
+        }
+        Refusal::TooLarge { bytes } => {
+            json!(in alloc; {"bytes": *bytes, "refused": "TooLarge", "seq": seq})
+        }
         Refusal::Expired { floor } => expired_value(alloc, *floor, seq),
     }
 }
@@ -90,6 +99,7 @@ fn limit_text(what: Limit) -> &'static str
 {
     match what {
         Limit::Files => "files",
+        Limit::Rows => "rows",
         Limit::Instants => "instants",
         Limit::Live => "live",
     }

@@ -3,15 +3,16 @@ ghost use Rattle.serde_json.specs.Data.{string};
 ghost use Rattle.serde_json.specs.Find.{get};
 ghost use Rattle.serde_json.specs.View.{view, items_of, items_view};
 ghost use Rattle.mx_ask.specs.declared.ask.Ask.{Ask};
-ghost use Rattle.mx_ask.specs.declared.ask.FileText.{FileText};
+ghost use Rattle.mx_ask.specs.declared.ask.FileRows.{FileRows};
 ghost use Rattle.mx_ask.specs.declared.reading.LineError.TheVariants.{NoMemory};
-ghost use Rattle.mx_ask.specs.Asks.{file_data, IsFileText, IsNamed, IsAskData, IsAsk};
+ghost use Rattle.mx_ask.specs.Asks.{file_data, IsFileRows, IsNamed, IsAskData, IsAsk};
 
 use crate::fields::{file_id_in, partition_in};
-use crate::members::{text_in, three_members};
+use crate::members::three_members;
 use crate::objects::{commit_parts, files_parts, partitions_parts};
-use crate::{Ask, AskKind, FileText, Question};
-use mx_lists::{Listed, Text};
+use crate::rows::rows_in;
+use crate::{Ask, AskKind, FileRows, Question};
+use mx_lists::Listed;
 use mx_text::{TextError, read_line};
 use serde_json::Value;
 use std::alloc::{AllocError, Global};
@@ -119,10 +120,10 @@ fn partitions_in(value: &Value) -> Result<Ask, LineError>
     })
 }
 
-fn files_in(alloc: Global, items: &[Value]) -> Result<Listed<FileText>, LineError>
-    ensures ok { IfOk result (λ files. (items_view items.now ≡ items_of (map file_data files)) × All IsFileText files) }
+fn files_in(alloc: Global, items: &[Value]) -> Result<Listed<FileRows>, LineError>
+    ensures ok { IfOk result (λ files. (items_view items.now ≡ items_of (map file_data files)) × All IsFileRows files) }
     ensures not_an_ask { IsErrOf result LineError.NotAnAsk
-        → (files : List FileText) → All IsFileText files → items_view items.now ≢ items_of (map file_data files) }
+        → (files : List FileRows) → All IsFileRows files → items_view items.now ≢ items_of (map file_data files) }
 {
     let mut files = Listed::new(alloc);
     for item in items {
@@ -131,25 +132,22 @@ fn files_in(alloc: Global, items: &[Value]) -> Result<Listed<FileText>, LineErro
     Ok(files)
 }
 
-fn file_in(alloc: Global, value: &Value) -> Result<FileText, LineError>
-    ensures ok { IfOk result (λ file. (view value.now ≡ file_data file) × IsFileText file) }
+fn file_in(alloc: Global, value: &Value) -> Result<FileRows, LineError>
+    ensures ok { IfOk result (λ file. (view value.now ≡ file_data file) × IsFileRows file) }
     ensures not_an_ask { IsErrOf result LineError.NotAnAsk
-        → (file : FileText) → IsFileText file → view value.now ≢ file_data file }
+        → (file : FileRows) → IsFileRows file → view value.now ≢ file_data file }
 {
-    let Some((file, partition, text)) = three_members(value, "file", "partition", "text") else {
-        return Err(LineError::NotAnAsk);
-    };
-    let Some(text) = text_in(text) else {
+    let Some((file, partition, rows)) = three_members(value, "file", "partition", "rows") else {
         return Err(LineError::NotAnAsk);
     };
     let Some(file) = file_id_in(file) else {
         return Err(LineError::NotAnAsk);
     };
     let partition = partition_in(alloc, partition)?;
-    let text = Text::from_str(alloc, text)?;
-    Ok(FileText {
+    let rows = rows_in(alloc, rows)?;
+    Ok(FileRows {
         file,
         partition,
-        text,
+        rows,
     })
 }

@@ -13,6 +13,8 @@ pub struct FileSize {
 pub enum Limit {
     /// Files of one commit.
     Files,
+    /// Rows of one file of a commit.
+    Rows,
     /// Instants of the timeline.
     Instants,
     /// Files that the table lists.
@@ -35,6 +37,13 @@ pub enum Refusal {
     TooMany { what: Limit, count: u64 },
     /// Two files of a commit are of one group.
     DuplicateGroup { partition: Partition, file: FileId },
+    /// A place of a commit's rows is not what the schema asks for: the file, its row and the element of the row, each
+    /// counted from 0.
+    BadRow { file: u64, row: u64, column: u32 },
+    /// Two rows of a file have one key.
+    DuplicateRow { key: Text },
+    /// A file would have more bytes than a file takes.
+    TooLarge { bytes: u64 },
     /// The instant to look at is below the floor.
     Expired { floor: Instant },
 }

@@ -1,50 +1,40 @@
 use super::*;
+use crate::rows_tests::{Given, Rows, are};
 use mx_base::Partition;
 use std::alloc::Global;
 use std::test::Fail;
 
+/// Commits of one file, and its rows.
+const COMMITS: [(&[u8], Rows); 5] = [
+    (
+        b"{\"ask\":\"commit\",\"files\":[{\"file\":\"11111111-1111-4111-8111-111111111111\",\"partition\":\"2024-01-01\",\"rows\":[[\"a,b\"]]}]}",
+        &[&[Given::Text("a,b")]],
+    ),
+    (
+        b" { \"files\" : [ { \"rows\" : [ ] , \"partition\" : \"2024-01-01\" , \"file\" : \"11111111-1111-4111-8111-111111111111\" } ] , \"ask\" : \"commit\" } \r",
+        &[],
+    ),
+    (
+        b"{\"\\u0061sk\":\"commit\",\"files\":[{\"file\":\"11111111-1111-4111-8111-11111111111\\u0031\",\"partition\":\"2024\\u002d01-01\",\"r\\u006fws\":[[\"\\u0061\\n\\u0000\\u00e9\"]]}]}",
+        &[&[Given::Text("a\n\0\u{e9}")]],
+    ),
+    (
+        b"{\"ask\":1.5,\"files\":[],\"ask\":\"commit\",\"files\":[{\"file\":\"11111111-1111-4111-8111-111111111111\",\"partition\":\"2024-01-01\",\"rows\":[[\"twice\"]]}]}",
+        &[&[Given::Text("twice")]],
+    ),
+    (
+        b"{\"ask\":\"commit\",\"files\":[{\"rows\":0,\"file\":\"11111111-1111-4111-8111-111111111111\",\"partition\":\"/\",\"partition\":\"2024-01-01\",\"rows\":[[\"\xf0\x9f\x98\x80\"]]}]}",
+        &[&[Given::Text("\u{1f600}")]],
+    ),
+];
+
 #[test]
 fn a_commit_has_exactly_its_fields_in_any_order_and_spacing(rt: HostRuntime) -> Result<(), Fail> {
     let alloc = rt.alloc();
-    let commits: [(&[u8], &[u8]); 5] = [
-        (
-            b"{\"ask\":\"commit\",\"files\":[{\"file\":\"11111111-1111-4111-8111-111111111111\",\"partition\":\"2024-01-01\",\"text\":\"a,b\"}]}",
-            b"a,b",
-        ),
-        (
-            b" { \"files\" : [ { \"text\" : \"\" , \"partition\" : \"2024-01-01\" , \"file\" : \"11111111-1111-4111-8111-111111111111\" } ] , \"ask\" : \"commit\" } \r",
-            b"",
-        ),
-        (
-            b"{\"\\u0061sk\":\"commit\",\"files\":[{\"file\":\"11111111-1111-4111-8111-11111111111\\u0031\",\"partition\":\"2024\\u002d01-01\",\"text\":\"\\u0061\\n\\u0000\\u00e9\"}]}",
-            b"a\n\0\xc3\xa9",
-        ),
-        (
-            b"{\"ask\":1.5,\"files\":[],\"ask\":\"commit\",\"files\":[{\"file\":\"11111111-1111-4111-8111-111111111111\",\"partition\":\"2024-01-01\",\"text\":\"twice\"}]}",
-            b"twice",
-        ),
-        (
-            b"{\"ask\":\"commit\",\"files\":[{\"text\":0,\"file\":\"11111111-1111-4111-8111-111111111111\",\"partition\":\"/\",\"partition\":\"2024-01-01\",\"text\":\"\xf0\x9f\x98\x80\"}]}",
-            b"\xf0\x9f\x98\x80",
-        ),
-    ];
-    for (line, text) in commits {
-        match ask_of(alloc, line)?.kind {
-            AskKind::Commit { files } => {
-                assert_eq!(rt; files.len(), 1);
-                let file = &files.as_slice()[0];
-                assert_eq!(rt;
-                    file.file.print().as_slice(),
-                    b"11111111-1111-4111-8111-111111111111".as_slice()
-                );
-                assert_eq!(rt;
-                    file.partition.as_str().as_bytes(),
-                    b"2024-01-01".as_slice()
-                );
-                assert_eq!(rt; file.text.as_str().as_bytes(), text);
-            }
-            AskKind::LookUp { question, .. } => assert!(rt; false, "a look at {question:?}"),
-        }
+    let file: &[(&str, &str)] = &[("11111111-1111-4111-8111-111111111111", "2024-01-01")];
+    for (at, (line, rows)) in COMMITS.iter().enumerate() {
+        assert_eq!(rt; places(alloc, line, file)?, true, "line {at}");
+        assert_eq!(rt; first_rows(alloc, line, rows), true, "line {at}");
     }
     Ok(())
 }
@@ -81,43 +71,31 @@ fn a_look_at_files_has_exactly_its_fields_in_any_order_and_spacing(
     Ok(())
 }
 
+/// Commits, with the ids and the partitions of their files.
+const FILES: [(&[u8], &[(&str, &str)]); 4] = [
+    (b"{\"ask\":\"commit\",\"files\":[]}", &[]),
+    (b"{\"files\":[ ],\"ask\":\"commit\"}", &[]),
+    (
+        b"{\"ask\":\"commit\",\"files\":[{\"file\":\"22222222-2222-4222-8222-222222222222\",\"partition\":\"b\",\"rows\":[[\"x\"]]} , {\"partition\":\"a\",\"rows\":[],\"file\":\"11111111-1111-4111-8111-111111111111\"}]}",
+        &[
+            ("22222222-2222-4222-8222-222222222222", "b"),
+            ("11111111-1111-4111-8111-111111111111", "a"),
+        ],
+    ),
+    (
+        b"{\"ask\":\"commit\",\"files\":[{\"file\":\"11111111-1111-4111-8111-111111111111\",\"partition\":\"a\",\"rows\":[[\"x\"]]},{\"file\":\"11111111-1111-4111-8111-111111111111\",\"partition\":\"a\",\"rows\":[[\"x\"]]},{\"file\":\"11111111-1111-4111-8111-111111111111\",\"partition\":\"a\",\"rows\":[[\"y\"]]}]}",
+        &[
+            ("11111111-1111-4111-8111-111111111111", "a"),
+            ("11111111-1111-4111-8111-111111111111", "a"),
+            ("11111111-1111-4111-8111-111111111111", "a"),
+        ],
+    ),
+];
+
 #[test]
 fn a_commit_has_any_number_of_files_in_their_order(rt: HostRuntime) -> Result<(), Fail> {
-    let alloc = rt.alloc();
-    let none: &[(&str, &str, &str)] = &[];
-    let two: &[(&str, &str, &str)] = &[
-        ("22222222-2222-4222-8222-222222222222", "b", "x"),
-        ("11111111-1111-4111-8111-111111111111", "a", ""),
-    ];
-    let same: &[(&str, &str, &str)] = &[
-        ("11111111-1111-4111-8111-111111111111", "a", "x"),
-        ("11111111-1111-4111-8111-111111111111", "a", "x"),
-        ("11111111-1111-4111-8111-111111111111", "a", "y"),
-    ];
-    let cases: [(&[u8], &[(&str, &str, &str)]); 4] = [
-        (b"{\"ask\":\"commit\",\"files\":[]}", none),
-        (b"{\"files\":[ ],\"ask\":\"commit\"}", none),
-        (
-            b"{\"ask\":\"commit\",\"files\":[{\"file\":\"22222222-2222-4222-8222-222222222222\",\"partition\":\"b\",\"text\":\"x\"} , {\"partition\":\"a\",\"text\":\"\",\"file\":\"11111111-1111-4111-8111-111111111111\"}]}",
-            two,
-        ),
-        (
-            b"{\"ask\":\"commit\",\"files\":[{\"file\":\"11111111-1111-4111-8111-111111111111\",\"partition\":\"a\",\"text\":\"x\"},{\"file\":\"11111111-1111-4111-8111-111111111111\",\"partition\":\"a\",\"text\":\"x\"},{\"file\":\"11111111-1111-4111-8111-111111111111\",\"partition\":\"a\",\"text\":\"y\"}]}",
-            same,
-        ),
-    ];
-    for (line, expected) in cases {
-        match ask_of(alloc, line)?.kind {
-            AskKind::Commit { files } => {
-                assert_eq!(rt; files.len(), expected.len());
-                for (file, (id, partition, text)) in files.as_slice().iter().zip(expected) {
-                    assert_eq!(rt; file.file.to_text(alloc)?.as_str(), *id);
-                    assert_eq!(rt; file.partition.as_str(), *partition);
-                    assert_eq!(rt; file.text.as_str(), *text);
-                }
-            }
-            AskKind::LookUp { question, .. } => assert!(rt; false, "a look at {question:?}"),
-        }
+    for (at, (line, expected)) in FILES.iter().enumerate() {
+        assert_eq!(rt; places(rt.alloc(), line, expected)?, true, "line {at}");
     }
     Ok(())
 }
@@ -156,51 +134,53 @@ fn a_look_at_files_is_at_an_instant_or_at_the_newest_commit(rt: HostRuntime) -> 
     Ok(())
 }
 
+/// Looks at the partitions, with their instants and sessions.
+const LOOKS_AT_PARTITIONS: [(&[u8], Option<u64>, u32); 11] = [
+    (b"{\"ask\":\"partitions\"}", None, 1),
+    (
+        b"{\"ask\":\"partitions\",\"at\":\"20250101000000001\"}",
+        Some(20250101000000001),
+        1,
+    ),
+    (b"{\"ask\":\"partitions\",\"session\":64}", None, 64),
+    (
+        b"{\"ask\":\"partitions\",\"at\":\"00000000000000000\",\"session\":9}",
+        Some(0),
+        9,
+    ),
+    (
+        b"{\"session\":1,\"at\":\"99999999999999999\",\"ask\":\"partitions\"}",
+        Some(99999999999999999),
+        1,
+    ),
+    (
+        b" { \"\\u0061t\" : \"0000000000000000\\u0031\" , \"session\" : 2 , \"ask\" : \"p\\u0061rtitions\" } \r",
+        Some(1),
+        2,
+    ),
+    (b"\t{\"session\" : 3,\"ask\":\"partitions\"}", None, 3),
+    (
+        b"{\"ask\":\"partitions\",\"at\":null,\"at\":\"00000000000000005\"}",
+        Some(5),
+        1,
+    ),
+    (
+        b"{\"at\":\"00000000000000005\",\"ask\":\"partitions\",\"at\":\"00000000000000006\"}",
+        Some(6),
+        1,
+    ),
+    (
+        b"{\"session\":65,\"ask\":\"partitions\",\"session\":4}",
+        None,
+        4,
+    ),
+    (b"{\"ask\":\"files\",\"ask\":\"partitions\"}", None, 1),
+];
+
 #[test]
 fn a_look_at_partitions_may_have_an_instant_and_a_session(rt: HostRuntime) -> Result<(), Fail> {
     let alloc = rt.alloc();
-    let cases: [(&[u8], Option<u64>, u32); 11] = [
-        (b"{\"ask\":\"partitions\"}", None, 1),
-        (
-            b"{\"ask\":\"partitions\",\"at\":\"20250101000000001\"}",
-            Some(20250101000000001),
-            1,
-        ),
-        (b"{\"ask\":\"partitions\",\"session\":64}", None, 64),
-        (
-            b"{\"ask\":\"partitions\",\"at\":\"00000000000000000\",\"session\":9}",
-            Some(0),
-            9,
-        ),
-        (
-            b"{\"session\":1,\"at\":\"99999999999999999\",\"ask\":\"partitions\"}",
-            Some(99999999999999999),
-            1,
-        ),
-        (
-            b" { \"\\u0061t\" : \"0000000000000000\\u0031\" , \"session\" : 2 , \"ask\" : \"p\\u0061rtitions\" } \r",
-            Some(1),
-            2,
-        ),
-        (b"\t{\"session\" : 3,\"ask\":\"partitions\"}", None, 3),
-        (
-            b"{\"ask\":\"partitions\",\"at\":null,\"at\":\"00000000000000005\"}",
-            Some(5),
-            1,
-        ),
-        (
-            b"{\"at\":\"00000000000000005\",\"ask\":\"partitions\",\"at\":\"00000000000000006\"}",
-            Some(6),
-            1,
-        ),
-        (
-            b"{\"session\":65,\"ask\":\"partitions\",\"session\":4}",
-            None,
-            4,
-        ),
-        (b"{\"ask\":\"files\",\"ask\":\"partitions\"}", None, 1),
-    ];
-    for (line, at, session) in cases {
+    for (line, at, session) in LOOKS_AT_PARTITIONS {
         assert_eq!(rt; look_at_partitions(alloc, line), Some((at, session)));
     }
     Ok(())
@@ -270,53 +250,56 @@ fn an_ask_is_of_the_session_that_it_tells_or_of_session_1(rt: HostRuntime) -> Re
     Ok(())
 }
 
+/// Lines that are no asks.
+const NO_ASKS: [&[u8]; 42] = [
+    b"",
+    b"null",
+    b"1",
+    b"[]",
+    b"{}",
+    b"\"files\"",
+    b"[\"files\",\"2024-01-01\"]",
+    b"{\"ask\":\"files\",\"partition\":\"2024-01-01\"",
+    b"{\"ask\":\"files\",\"partition\":\"2024-01-01\",}",
+    b"{\"ask\":\"files\",\"partition\":\"2024-01-01\"} 1",
+    b"{\"ask\":\"files\"}",
+    b"{\"partition\":\"2024-01-01\"}",
+    b"{\"ask\":\"files\",\"partition\":\"2024-01-01\",\"a\":\"\"}",
+    b"{\"ask\":\"files\",\"Partition\":\"2024-01-01\"}",
+    b"{\"ask\":\"files\",\"files\":\"2024-01-01\"}",
+    b"{\"ask\":\"Files\",\"partition\":\"2024-01-01\"}",
+    b"{\"ask\":\"wait\",\"partition\":\"2024-01-01\"}",
+    b"{\"ask\":\"commit\",\"partition\":\"2024-01-01\"}",
+    b"{\"ask\":null,\"partition\":\"2024-01-01\"}",
+    b"{\"ask\":\"files\",\"partition\":20240101}",
+    b"{\"ask\":\"files\",\"partition\":[\"2024-01-01\"]}",
+    b"{\"ask\":\"files\",\"partition\":\"\"}",
+    b"{\"ask\":\"files\",\"partition\":\"2024/01\"}",
+    b"{\"ask\":\"files\",\"partition\":\".hoodie\"}",
+    b"{\"ask\":\"files\",\"partition\":\"2024-01-01\\u0000\"}",
+    b"{\"ask\":\"files\",\"partition\":\"01234567890123456789012345678901234567890123456789012345678901234\"}",
+    b"{\"ask\":\"files\",\"partition\":\"2024-01-01\",\"partition\":\"/\"}",
+    b"{\"ask\":\"files\",\"partition\":\"2024-01-01\xff\"}",
+    b"{\"ask\":\"commit\"}",
+    b"{\"ask\":\"commit\",\"files\":null}",
+    b"{\"ask\":\"commit\",\"files\":[1]}",
+    b"{\"ask\":\"commit\",\"files\":{\"file\":\"11111111-1111-4111-8111-111111111111\",\"partition\":\"2024-01-01\",\"rows\":[]}}",
+    b"{\"ask\":\"commit\",\"files\":[{\"file\":\"11111111-1111-4111-8111-111111111111\",\"partition\":\"2024-01-01\",\"rows\":[]}],\"sessions\":1}",
+    b"{\"ask\":\"commit\",\"files\":[],\"partition\":\"2024-01-01\"}",
+    b"{\"ask\":\"commit\",\"at\":\"20250101000000000\",\"files\":[]}",
+    b"{\"ask\":\"commit\",\"files\":[{\"file\":\"11111111-1111-4111-8111-111111111111\",\"partition\":\"2024-01-01\",\"rows\":[]},null]}",
+    b"{\"ask\":\"commit\",\"files\":[{\"file\":\"11111111-1111-4111-8111-111111111111\",\"partition\":\"2024-01-01\",\"rows\":[]},{\"file\":\"11111111-1111-4111-8111-111111111112\",\"partition\":\"/\",\"rows\":[]}]}",
+    b"{\"ask\":\"files\",\"partition\":\"2024-01-01\",\"session\":1,\"sessions\":1}",
+    b"{\"ask\":\"files\",\"at\":\"20250101000000000\"}",
+    b"{\"ask\":\"files\",\"at\":\"20250101000000000\",\"files\":[],\"partition\":\"2024-01-01\"}",
+    b"{\"ask\":\"files\",\"files\":[{\"file\":\"11111111-1111-4111-8111-111111111111\",\"partition\":\"2024-01-01\",\"rows\":[]}]}",
+    b"{\"ask\":\"commit\",\"files\":[],\"rows\":[]}",
+];
+
 #[test]
 fn any_other_line_is_no_ask(rt: HostRuntime) -> Result<(), Fail> {
     let alloc = rt.alloc();
-    let lines: [&[u8]; 41] = [
-        b"",
-        b"null",
-        b"1",
-        b"[]",
-        b"{}",
-        b"\"files\"",
-        b"[\"files\",\"2024-01-01\"]",
-        b"{\"ask\":\"files\",\"partition\":\"2024-01-01\"",
-        b"{\"ask\":\"files\",\"partition\":\"2024-01-01\",}",
-        b"{\"ask\":\"files\",\"partition\":\"2024-01-01\"} 1",
-        b"{\"ask\":\"files\"}",
-        b"{\"partition\":\"2024-01-01\"}",
-        b"{\"ask\":\"files\",\"partition\":\"2024-01-01\",\"a\":\"\"}",
-        b"{\"ask\":\"files\",\"Partition\":\"2024-01-01\"}",
-        b"{\"ask\":\"files\",\"files\":\"2024-01-01\"}",
-        b"{\"ask\":\"Files\",\"partition\":\"2024-01-01\"}",
-        b"{\"ask\":\"wait\",\"partition\":\"2024-01-01\"}",
-        b"{\"ask\":\"commit\",\"partition\":\"2024-01-01\"}",
-        b"{\"ask\":null,\"partition\":\"2024-01-01\"}",
-        b"{\"ask\":\"files\",\"partition\":20240101}",
-        b"{\"ask\":\"files\",\"partition\":[\"2024-01-01\"]}",
-        b"{\"ask\":\"files\",\"partition\":\"\"}",
-        b"{\"ask\":\"files\",\"partition\":\"2024/01\"}",
-        b"{\"ask\":\"files\",\"partition\":\".hoodie\"}",
-        b"{\"ask\":\"files\",\"partition\":\"2024-01-01\\u0000\"}",
-        b"{\"ask\":\"files\",\"partition\":\"01234567890123456789012345678901234567890123456789012345678901234\"}",
-        b"{\"ask\":\"files\",\"partition\":\"2024-01-01\",\"partition\":\"/\"}",
-        b"{\"ask\":\"files\",\"partition\":\"2024-01-01\xff\"}",
-        b"{\"ask\":\"commit\"}",
-        b"{\"ask\":\"commit\",\"files\":null}",
-        b"{\"ask\":\"commit\",\"files\":[1]}",
-        b"{\"ask\":\"commit\",\"files\":{\"file\":\"11111111-1111-4111-8111-111111111111\",\"partition\":\"2024-01-01\",\"text\":\"\"}}",
-        b"{\"ask\":\"commit\",\"files\":[{\"file\":\"11111111-1111-4111-8111-111111111111\",\"partition\":\"2024-01-01\",\"text\":\"\"}],\"sessions\":1}",
-        b"{\"ask\":\"commit\",\"files\":[],\"partition\":\"2024-01-01\"}",
-        b"{\"ask\":\"commit\",\"at\":\"20250101000000000\",\"files\":[]}",
-        b"{\"ask\":\"commit\",\"files\":[{\"file\":\"11111111-1111-4111-8111-111111111111\",\"partition\":\"2024-01-01\",\"text\":\"\"},null]}",
-        b"{\"ask\":\"commit\",\"files\":[{\"file\":\"11111111-1111-4111-8111-111111111111\",\"partition\":\"2024-01-01\",\"text\":\"\"},{\"file\":\"11111111-1111-4111-8111-111111111112\",\"partition\":\"/\",\"text\":\"\"}]}",
-        b"{\"ask\":\"files\",\"partition\":\"2024-01-01\",\"session\":1,\"sessions\":1}",
-        b"{\"ask\":\"files\",\"at\":\"20250101000000000\"}",
-        b"{\"ask\":\"files\",\"at\":\"20250101000000000\",\"files\":[],\"partition\":\"2024-01-01\"}",
-        b"{\"ask\":\"files\",\"files\":[{\"file\":\"11111111-1111-4111-8111-111111111111\",\"partition\":\"2024-01-01\",\"text\":\"\"}]}",
-    ];
-    for (at, line) in lines.iter().enumerate() {
+    for (at, line) in NO_ASKS.iter().enumerate() {
         assert_eq!(rt;
             refusal(alloc, line),
             Some(LineError::NotAnAsk),
@@ -329,19 +312,22 @@ fn any_other_line_is_no_ask(rt: HostRuntime) -> Result<(), Fail> {
 #[test]
 fn a_file_with_other_fields_is_no_file_of_a_commit(rt: HostRuntime) -> Result<(), Fail> {
     let alloc = rt.alloc();
-    let files: [&str; 12] = [
+    let files: [&str; 15] = [
         "",
         "\"file\":\"11111111-1111-4111-8111-111111111111\",\"partition\":\"2024-01-01\"",
-        "\"file\":\"11111111-1111-4111-8111-111111111111\",\"text\":\"\"",
-        "\"partition\":\"2024-01-01\",\"text\":\"\"",
-        "\"file\":\"11111111-1111-4111-8111-111111111111\",\"partition\":\"2024-01-01\",\"text\":5",
-        "\"file\":\"11111111-1111-4111-8111-111111111111\",\"partition\":\"2024-01-01\",\"text\":null",
-        "\"file\":\"11111111-1111-4111-8111-111111111111\",\"partition\":\"2024-01-01\",\"text\":\"\",\"size\":0",
-        "\"file\":\"11111111-1111-4111-8111-111111111111\",\"partition\":\"_\",\"text\":\"\"",
-        "\"file\":\"AAAAAAAA-1111-4111-8111-111111111111\",\"partition\":\"2024-01-01\",\"text\":\"\"",
-        "\"file\":\"11111111111141118111111111111111\",\"partition\":\"2024-01-01\",\"text\":\"\"",
-        "\"file\":\"{11111111-1111-4111-8111-111111111111}\",\"partition\":\"2024-01-01\",\"text\":\"\"",
-        "\"file\":\"11111111-1111-4111-8111-11111111111g\",\"partition\":\"2024-01-01\",\"text\":\"\"",
+        "\"file\":\"11111111-1111-4111-8111-111111111111\",\"rows\":[]",
+        "\"partition\":\"2024-01-01\",\"rows\":[]",
+        "\"file\":\"11111111-1111-4111-8111-111111111111\",\"partition\":\"2024-01-01\",\"text\":\"\"",
+        "\"file\":\"11111111-1111-4111-8111-111111111111\",\"partition\":\"2024-01-01\",\"Rows\":[]",
+        "\"file\":\"11111111-1111-4111-8111-111111111111\",\"partition\":\"2024-01-01\",\"rows\":[],\"text\":\"\"",
+        "\"file\":\"11111111-1111-4111-8111-111111111111\",\"partition\":\"2024-01-01\",\"text\":[],\"rows\":[]",
+        "\"file\":\"11111111-1111-4111-8111-111111111111\",\"partition\":\"2024-01-01\",\"rows\":[],\"rows\":null",
+        "\"file\":\"11111111-1111-4111-8111-111111111111\",\"partition\":\"2024-01-01\",\"rows\":[],\"size\":0",
+        "\"file\":\"11111111-1111-4111-8111-111111111111\",\"partition\":\"_\",\"rows\":[]",
+        "\"file\":\"AAAAAAAA-1111-4111-8111-111111111111\",\"partition\":\"2024-01-01\",\"rows\":[]",
+        "\"file\":\"11111111111141118111111111111111\",\"partition\":\"2024-01-01\",\"rows\":[]",
+        "\"file\":\"{11111111-1111-4111-8111-111111111111}\",\"partition\":\"2024-01-01\",\"rows\":[]",
+        "\"file\":\"11111111-1111-4111-8111-11111111111g\",\"partition\":\"2024-01-01\",\"rows\":[]",
     ];
     for (at, file) in files.iter().enumerate() {
         let line = format!(in alloc; "{{\"ask\":\"commit\",\"files\":[{{{file}}}]}}")?;
@@ -435,6 +421,38 @@ fn a_line_of_more_than_4_194_304_bytes_is_no_ask(rt: HostRuntime) -> Result<(), 
 
 fn refusal(alloc: Global, line: &[u8]) -> Option<LineError> {
     ask_of(alloc, line).err()
+}
+
+// Whether a commit's files have these ids and partitions.
+fn places(alloc: Global, line: &[u8], expected: &[(&str, &str)]) -> Result<bool, Fail> {
+    let AskKind::Commit { files } = ask_of(alloc, line)?.kind else {
+        return Ok(false);
+    };
+    if files.len() != expected.len() {
+        return Ok(false);
+    }
+    for (file, (id, partition)) in files.as_slice().iter().zip(expected) {
+        if file.file.to_text(alloc)?.as_str() != *id || file.partition.as_str() != *partition {
+            return Ok(false);
+        }
+    }
+    Ok(true)
+}
+
+// Whether the first file of a commit has these rows.
+fn first_rows(alloc: Global, line: &[u8], expected: Rows) -> bool {
+    match ask_of(alloc, line) {
+        Ok(
+            Ask {
+                kind: AskKind::Commit { files },
+                ..
+            },
+        ) => match files.as_slice() {
+            [file, ..] => are(file.rows.as_slice(), expected),
+            [] => false,
+        },
+        _ => false,
+    }
 }
 
 // The partition and the instant of a look at files.

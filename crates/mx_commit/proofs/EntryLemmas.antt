@@ -7,9 +7,9 @@ use Rattle.std.proofs.lemmas.List.Elements.{All-nil, All-push, Contains-append_l
 use Rattle.std.proofs.lemmas.List.{take_more}
 use lib.Seq.{drop-cons}
 use Rattle.std.proofs.lemmas.Slice.Eq.{bytes_eq-Decides}
-use Rattle.mx_ask.specs.declared.ask.FileText.{FileText}
+use Rattle.mx_ask.specs.declared.ask.FileRows.{FileRows}
 use Rattle.mx_commit.specs.Grouping.{is_same_group}
-use Rattle.mx_commit.specs.Written.{IsSameGroup, AreApartFiles, IsFirstDouble}
+use Rattle.mx_commit.specs.Written.{IsSameGroup, AreApartFiles, IsFirstDouble, asked_group}
 
 -- ---- elements of a list
 
@@ -58,36 +58,36 @@ find_it {X} p (y ∷ xs) x among is = at (p y) refl (cases y x xs among) (λ lat
 
 -- ---- files of one group
 
-pub same_group : (x y : FileText) → is_same_group x y ≡ true → IsSameGroup x y
+pub same_group : (x y : FileRows) → is_same_group x y ≡ true → IsSameGroup (asked_group x) (asked_group y)
 same_group x y is = (
   (bytes_eq-Decides x.partition y.partition).0 (left_of (bytes_eq x.partition y.partition) (bytes_eq x.file y.file) is),
   (bytes_eq-Decides x.file y.file).0 (right_of (bytes_eq x.partition y.partition) (bytes_eq x.file y.file) is),
 )
 
-pub tests_same : (x y : FileText) → IsSameGroup x y → is_same_group x y ≡ true
+pub tests_same : (x y : FileRows) → IsSameGroup (asked_group x) (asked_group y) → is_same_group x y ≡ true
 tests_same x y same = both (bytes_eq x.partition y.partition) (bytes_eq x.file y.file) ((bytes_eq-Decides x.partition y.partition).1 same.0) ((bytes_eq-Decides x.file y.file).1 same.1)
 
-apart_push : (files : List FileText) (file : FileText) → AreApartFiles files → ((other : FileText) → Contains files other → ¬ (IsSameGroup other file)) → AreApartFiles (files ++ file ∷ [])
-apart_push [] file apart differ = (All-nil (λ (other : FileText). ¬ (IsSameGroup file other)), tt)
+apart_push : (files : List FileRows) (file : FileRows) → AreApartFiles asked_group files → ((other : FileRows) → Contains files other → ¬ (IsSameGroup (asked_group other) (asked_group file))) → AreApartFiles asked_group (files ++ file ∷ [])
+apart_push [] file apart differ = (All-nil (λ (other : FileRows). ¬ (IsSameGroup (asked_group file) (asked_group other))), tt)
 apart_push (first ∷ files) file apart differ = (
-  All-push (λ (other : FileText). ¬ (IsSameGroup first other)) files file apart.0 (differ first (here first files)),
+  All-push (λ (other : FileRows). ¬ (IsSameGroup (asked_group first) (asked_group other))) files file apart.0 (differ first (here first files)),
   apart_push files file apart.1 (λ other among. differ other (there first other files among)),
 )
 
-pub apart_next : (files : List FileText) (place : ℕ) (file : FileText) → place < length files → file ≡ get_or files place file → AreApartFiles (take place files) → list_any (is_same_group file) (take place files) ≡ false → AreApartFiles (take (place + 1) files)
+pub apart_next : (files : List FileRows) (place : ℕ) (file : FileRows) → place < length files → file ≡ get_or files place file → AreApartFiles asked_group (take place files) → list_any (is_same_group file) (take place files) ≡ false → AreApartFiles asked_group (take (place + 1) files)
 apart_next files place file within is apart none =
-    subst AreApartFiles (ap (λ (f : FileText). take place files ++ f ∷ []) is ∙ sym (take_more files place file within))
+    subst (AreApartFiles asked_group) (ap (λ (f : FileRows). take place files ++ f ∷ []) is ∙ sym (take_more files place file within))
     (apart_push (take place files) file apart (λ other among same. absurd (cc (sym none ∙ find_it (is_same_group file) (take place files) other among (tests_same file other (sym same.0, sym same.1))))))
 
-split_at : (files : List FileText) (place : ℕ) (file : FileText) → place < length files → file ≡ get_or files place file → files ≡ take place files ++ file ∷ drop (place + 1) files
+pub split_at : (files : List FileRows) (place : ℕ) (file : FileRows) → place < length files → file ≡ get_or files place file → files ≡ take place files ++ file ∷ drop (place + 1) files
 split_at files place file within is =
     sym (take-append-drop place files)
-    ∙ ap (λ (rest : List FileText). take place files ++ rest) (drop-cons files place file within ∙ ap₂ (λ (f : FileText) (n : ℕ). f ∷ drop n files) (sym is) (suc_is place))
+    ∙ ap (λ (rest : List FileRows). take place files ++ rest) (drop-cons files place file within ∙ ap₂ (λ (f : FileRows) (n : ℕ). f ∷ drop n files) (sym is) (suc_is place))
   where
     suc_is : (n : ℕ) → suc n ≡ n + 1
     suc_is n = omega arith
 
-pub first_double : (files : List FileText) (place : ℕ) (file : FileText) → place < length files → file ≡ get_or files place file → AreApartFiles (take place files) → list_any (is_same_group file) (take place files) ≡ true → IsFirstDouble files file
+pub first_double : (files : List FileRows) (place : ℕ) (file : FileRows) → place < length files → file ≡ get_or files place file → AreApartFiles asked_group (take place files) → list_any (is_same_group file) (take place files) ≡ true → IsFirstDouble files file
 first_double files place file within is apart any =
     let other = found (is_same_group file) (take place files) any in
     record {

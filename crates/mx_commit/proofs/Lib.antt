@@ -1,5 +1,6 @@
 pub mod AddedLemmas
 pub mod EntryLemmas
+pub mod MakingLemmas
 pub mod GroupingLemmas
 pub mod PlanLemmas
 pub mod ListingLemmas

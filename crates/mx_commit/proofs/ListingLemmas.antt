@@ -10,7 +10,7 @@ use Rattle.std.proofs.lemmas.List.{append_cancel_right}
 use Rattle.std.proofs.lemmas.List.Elements.{All-head, All-tail, All-contains}
 use Rattle.std.proofs.lemmas.Map.Text.{is_eq-slice_cmp}
 use Rattle.std.proofs.lemmas.Slice.Eq.{bytes_eq-Decides}
-use Rattle.mx_ask.specs.declared.ask.FileText.{FileText}
+use Rattle.mx_commit.specs.declared.new_file.NewFile.{NewFile}
 use Rattle.mx_base.specs.Digits.{instant_text}
 use Rattle.mx_base.specs.Paths.{data_file_name}
 use Rattle.mx_meta.specs.CommitText.{stat_below}
@@ -25,13 +25,13 @@ use Rattle.mx_files.specs.Files.{FilesMap, with_file}
 use Rattle.mx_folder.proofs.FoldLemmas.{Among, among, ApartFrom, AreApart}
 use Rattle.mx_folder.proofs.FileLemmas.{IsOtherFile, files_same}
 use Rattle.mx_commit.specs.declared.written.Written.{Written}
-use Rattle.mx_commit.specs.Written.{AreWritten, IsSameGroup, AreApartFiles, HasEntry, IsMetaOf}
+use Rattle.mx_commit.specs.Written.{AreWritten, IsSameGroup, AreApartFiles, new_group, HasEntry, IsMetaOf}
 use Rattle.mx_commit.specs.Changes.{file_added, files_added}
 
 -- ---- lists
 
 -- an element that is among is contained, as far as a sentence on all shows it
-contains : {X : Type 0} (x : X) (xs : List X) → Among x xs → Contains xs x
+pub contains : {X : Type 0} (x : X) (xs : List X) → Among x xs → Contains xs x
 contains x [] never = absurd never
 contains x (y ∷ ys) (inl same) = (0, omega arith, sym same)
 contains x (y ∷ ys) (inr more) = let there = contains x ys more in (suc there.0, omega (arith, there.1), there.2)
@@ -72,14 +72,14 @@ less_differs a b less same = absurd (cc (ap is_eq less, is_eq-slice_cmp a b, (by
 
 -- ---- the files of the ask
 
-added_from : (file : FileText) (files : List FileText) (at : ℕ) → All (λ (other : FileText). ¬ (IsSameGroup file other)) files → ApartFrom IsOtherFile (file_added at file) (files_added files at)
+added_from : (file : NewFile) (files : List NewFile) (at : ℕ) → All (λ (other : NewFile). ¬ (IsSameGroup (new_group file) (new_group other))) files → ApartFrom IsOtherFile (file_added at file) (files_added files at)
 added_from file [] at all = tt
 added_from file (other ∷ files) at all = (
-  λ same. All-head (λ (o : FileText). ¬ (IsSameGroup file o)) other files all (same.0, same_id file.file other.file at same.1),
-  added_from file files at (All-tail (λ (o : FileText). ¬ (IsSameGroup file o)) other files all),
+  λ same. All-head (λ (o : NewFile). ¬ (IsSameGroup (new_group file) (new_group o))) other files all (same.0, same_id file.file other.file at same.1),
+  added_from file files at (All-tail (λ (o : NewFile). ¬ (IsSameGroup (new_group file) (new_group o))) other files all),
 )
 
-added_apart : (files : List FileText) (at : ℕ) → AreApartFiles files → AreApart IsOtherFile (files_added files at)
+added_apart : (files : List NewFile) (at : ℕ) → AreApartFiles new_group files → AreApart IsOtherFile (files_added files at)
 added_apart [] at apart = tt
 added_apart (file ∷ files) at apart = (added_from file files at apart.0, added_apart files at apart.1)
 
@@ -171,26 +171,26 @@ entry_of at z (p ∷ ps) is = ⊎_elim
     (cases_append z (listed_in at p) (flat_map (listed_in at) ps) is)
 
 -- each file of the ask has its entry, and each entry is of a file
-entry_at : (files : List FileText) (at : ℕ) (written : List Written) (z : FileAt) → AreWritten files at written → Among z (files_added files at) → (w : Written) × Among w written × (z ≡ listed_file at w)
+entry_at : (files : List NewFile) (at : ℕ) (written : List Written) (z : FileAt) → AreWritten files at written → Among z (files_added files at) → (w : Written) × Among w written × (z ≡ listed_file at w)
 entry_at [] at written z are never = absurd never
 entry_at (file ∷ files) at [] z are is = absurd are
 entry_at (file ∷ files) at (w ∷ ws) z are (inl same) = (w, inl refl, same ∙ ap (listed_file at) (sym are.0.1))
 entry_at (file ∷ files) at (w ∷ ws) z are (inr more) = let there = entry_at files at ws z are.1 more in (there.0, inr there.1, there.2)
 
-file_at : (files : List FileText) (at : ℕ) (written : List Written) (w : Written) → AreWritten files at written → Among w written → Among (listed_file at w) (files_added files at)
+file_at : (files : List NewFile) (at : ℕ) (written : List Written) (w : Written) → AreWritten files at written → Among w written → Among (listed_file at w) (files_added files at)
 file_at files at [] w are never = absurd never
 file_at [] at (v ∷ ws) w are is = absurd are
 file_at (file ∷ files) at (v ∷ ws) w are (inl same) = inl (ap (listed_file at) (same ∙ are.0.1))
 file_at (file ∷ files) at (v ∷ ws) w are (inr more) = inr (file_at files at ws w are.1 more)
 
-module _ (files : List FileText) (at : ℕ) (written : List Written) (meta : CommitMeta) (apart : AreApartFiles files) (are : AreWritten files at written) (is : IsMetaOf written meta) where
+module _ (files : List NewFile) (at : ℕ) (written : List Written) (meta : CommitMeta) (apart : AreApartFiles new_group files) (are : AreWritten files at written) (is : IsMetaOf written meta) where
   into : (z : FileAt) → Among z (files_added files at) → Among z (flat_map (listed_in at) meta.partitions)
   into z among_files =
       let found = entry_at files at written z are among_files in
       subst (λ (f : FileAt). Among f (flat_map (listed_in at) meta.partitions)) (sym found.2)
       (entry_listed at meta found.0 (All-contains (HasEntry meta) written found.0 is.all (contains found.0 written found.1)))
 
-  back : (z : FileAt) → Among z (flat_map (listed_in at) meta.partitions) → Among z (files_added files at)
+  pub back : (z : FileAt) → Among z (flat_map (listed_in at) meta.partitions) → Among z (files_added files at)
   back z listed =
       let found = entry_of at z meta.partitions listed in
       let w : Written = record { partition = found.p.partition; stat = found.s } in

@@ -5,7 +5,7 @@ use Rattle.std.specs.Option.{option_map_or, SomeIff}
 use Rattle.std.proofs.lemmas.Bool.Decides.{Decides-ltb}
 use Rattle.std.proofs.lemmas.List.{map-append, take_more}
 use Rattle.std.proofs.lemmas.List.Elements.{All-nil, All-cons, All-head, All-tail, All-weaker, All-contains, All-contains_itself}
-use Rattle.mx_ask.specs.declared.ask.FileText.{FileText}
+use Rattle.mx_commit.specs.declared.new_file.NewFile.{NewFile}
 use Rattle.mx_base.specs.Objects.{IsObjectName, is_instant, object_path}
 use Rattle.mx_base.proofs.ObjectLemmas.{object_path-injective}
 use Rattle.mx_base.specs.declared.object_name.ObjectName.{ObjectName}
@@ -22,18 +22,18 @@ use Rattle.mx_commit.specs.declared.written.Written.{Written}
 use Rattle.mx_store.specs.declared.change.Change.{Change}
 use Rattle.mx_store.specs.declared.change.Change.TheVariants.{Create}
 use Rattle.mx_commit.specs.Changes.{logs_written, data_changes}
-use Rattle.mx_commit.specs.Written.{IsOtherGroup, AreOfOtherGroups, IsSameGroup, AreApartFiles, AreWritten, IsMetaOf, data_file}
+use Rattle.mx_commit.specs.Written.{IsOtherGroup, AreOfOtherGroups, IsSameGroup, AreApartFiles, new_group, AreWritten, IsMetaOf, data_file}
 use Rattle.mx_commit.proofs.EntryLemmas.{both}
 
 -- ---- the data files
 
-pub data_next : (old before after : List Change) (files : List FileText) (place : ℕ) (file : FileText) (t : ℕ) (change : Change) → place < length files → file ≡ get_or files place file → before ≡ old ++ data_changes (take place files) t
-    → change ≡ Create (data_file file t) file.text → after ≡ before ++ change ∷ [] → after ≡ old ++ data_changes (take (place + 1) files) t
+pub data_next : (old before after : List Change) (files : List NewFile) (place : ℕ) (file : NewFile) (t : ℕ) (change : Change) → place < length files → file ≡ get_or files place file → before ≡ old ++ data_changes (take place files) t
+    → change ≡ Create (data_file file t) file.bytes → after ≡ before ++ change ∷ [] → after ≡ old ++ data_changes (take (place + 1) files) t
 data_next old before after files place file t change within is so_far made pushed =
     pushed ∙ ap₂ (λ (cs : List Change) (c : Change). cs ++ c ∷ []) so_far made
-    ∙ append_assoc old (data_changes (take place files) t) (Create (data_file file t) file.text ∷ [])
-    ∙ ap (λ (cs : List Change). old ++ cs) (sym (map-append (λ (f : FileText). Create (data_file f t) f.text) (take place files) (file ∷ [])))
-    ∙ ap (λ (fs : List FileText). old ++ data_changes fs t) (ap (λ (f : FileText). take place files ++ f ∷ []) is ∙ sym (take_more files place file within))
+    ∙ append_assoc old (data_changes (take place files) t) (Create (data_file file t) file.bytes ∷ [])
+    ∙ ap (λ (cs : List Change). old ++ cs) (sym (map-append (λ (f : NewFile). Create (data_file f t) f.bytes) (take place files) (file ∷ [])))
+    ∙ ap (λ (fs : List NewFile). old ++ data_changes fs t) (ap (λ (f : NewFile). take place files ++ f ∷ []) is ∙ sym (take_more files place file within))
 
 -- ---- the log
 
@@ -49,12 +49,12 @@ one_log t meant small = ap (λ (x : Option Place). option_map_or (is_rising plac
     is = place_found ShardLog (object_path (log_name t)) (Some (log_name t)) (named t meant small, refl)
         (λ other other_named same. ap (λ (n : ObjectName). Some n) (object_path-injective (log_name t) other (named t meant small) other_named same))
 
-logs_stand : (files : List FileText) (t : ℕ) → 0 < t → t < 10 ^ 17 → stands_in_order ShardLog (logs_written files t) ≡ true
+logs_stand : (files : List NewFile) (t : ℕ) → 0 < t → t < 10 ^ 17 → stands_in_order ShardLog (logs_written files t) ≡ true
 unfolding stands_in_order
 logs_stand [] t meant small = refl
 logs_stand (file ∷ files) t meant small = one_log t meant small
 
-pub logs_meta : (files : List FileText) (t : ℕ) (found : Option (List (List ℕ))) (logs : List (List ℕ)) → 0 < t → t < 10 ^ 17 → logs ≡ logs_written files t → SomeIff found (stands_in_order ShardLog logs ≡ true) logs → found ≡ None → ⊥
+pub logs_meta : (files : List NewFile) (t : ℕ) (found : Option (List (List ℕ))) (logs : List (List ℕ)) → 0 < t → t < 10 ^ 17 → logs ≡ logs_written files t → SomeIff found (stands_in_order ShardLog logs ≡ true) logs → found ≡ None → ⊥
 logs_meta files t None logs meant small is tells none = tells (ap (stands_in_order ShardLog) is ∙ logs_stand files t meant small)
 logs_meta files t (Some x) logs meant small is tells none = absurd (cc none)
 
@@ -72,17 +72,17 @@ small_counts written meta is small = record {
 }
 
 -- entries of files that are apart are of other groups
-other_groups : (file : FileText) (w : Written) → w.partition ≡ file.partition → w.stat.file_id ≡ file.file → (files : List FileText) (at : ℕ) (ws : List Written) → All (λ (other : FileText). ¬ (IsSameGroup file other)) files → AreWritten files at ws → All (IsOtherGroup w) ws
+other_groups : (file : NewFile) (w : Written) → w.partition ≡ file.partition → w.stat.file_id ≡ file.file → (files : List NewFile) (at : ℕ) (ws : List Written) → All (λ (other : NewFile). ¬ (IsSameGroup (new_group file) (new_group other))) files → AreWritten files at ws → All (IsOtherGroup w) ws
 other_groups file w under is [] at [] apart entries = All-nil (IsOtherGroup w)
 other_groups file w under is [] at (v ∷ ws) apart entries = absurd entries
 other_groups file w under is (other ∷ files) at [] apart entries = absurd entries
 other_groups file w under is (other ∷ files) at (v ∷ ws) apart entries =
     let entry = entries.0.1 in
     All-cons (IsOtherGroup w) v ws
-    (λ same. All-head (λ (other : FileText). ¬ (IsSameGroup file other)) other files apart (sym under ∙ (same.0 ∙ ap (λ (v : Written). v.partition) entry), sym is ∙ (same.1 ∙ ap (λ (v : Written). v.stat.file_id) entry)))
-    (other_groups file w under is files at ws (All-tail (λ (other : FileText). ¬ (IsSameGroup file other)) other files apart) entries.1)
+    (λ same. All-head (λ (other : NewFile). ¬ (IsSameGroup (new_group file) (new_group other))) other files apart (sym under ∙ (same.0 ∙ ap (λ (v : Written). v.partition) entry), sym is ∙ (same.1 ∙ ap (λ (v : Written). v.stat.file_id) entry)))
+    (other_groups file w under is files at ws (All-tail (λ (other : NewFile). ¬ (IsSameGroup (new_group file) (new_group other))) other files apart) entries.1)
 
-pub entries_apart : (files : List FileText) (at : ℕ) (ws : List Written) → AreApartFiles files → AreWritten files at ws → AreOfOtherGroups ws
+pub entries_apart : (files : List NewFile) (at : ℕ) (ws : List Written) → AreApartFiles new_group files → AreWritten files at ws → AreOfOtherGroups ws
 entries_apart [] at [] apart entries = tt
 entries_apart [] at (w ∷ ws) apart entries = absurd entries
 entries_apart (file ∷ files) at [] apart entries = absurd entries

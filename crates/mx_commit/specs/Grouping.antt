@@ -4,13 +4,13 @@ use Rattle.std.specs.List.{flat_map}
 use Rattle.std.specs.Ordering.{nat_cmp, eq_by_cmp}
 use Rattle.std.specs.Cmp.Lexicographic.{slice_cmp}
 use Rattle.std.specs.Str.{bytes_eq}
-use Rattle.mx_ask.specs.declared.ask.FileText.{FileText}
+use Rattle.mx_ask.specs.declared.ask.FileRows.{FileRows}
 use Rattle.mx_meta.specs.declared.commit_meta.PartitionStats.{PartitionStats}
 use Rattle.mx_meta.specs.declared.commit_meta.WriteStat.{WriteStat}
 use Rattle.mx_commit.specs.declared.written.Written.{Written}
 
 -- the files are of one group, as a test
-abbrev pub is_same_group : FileText → FileText → Bool
+abbrev pub is_same_group : FileRows → FileRows → Bool
 is_same_group x y = bytes_eq x.partition y.partition && bytes_eq x.file y.file
 
 -- the entry stands under the partition

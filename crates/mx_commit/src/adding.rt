@@ -6,7 +6,7 @@ ghost use Rattle.mx_hfile.specs.Encoding.{AreEntries};
 ghost use Rattle.mx_log.specs.Encoding.{log_encoding};
 ghost use Rattle.mx_commit.specs.Changes.{file_added, files_added};
 
-use mx_ask::FileText;
+use crate::NewFile;
 use mx_base::{Entry, FileAt, Instant};
 use mx_files::delta;
 use mx_hfile::MOST_BYTES;
@@ -18,7 +18,7 @@ use std::alloc::{AllocError, Global};
 pub(crate) fn added_entries(
     alloc: Global,
     at: Instant,
-    files: &[FileText],
+    files: &[NewFile],
 ) -> Result<Vec<Entry>, AllocError>
     ensures { IfOk result (λ entries. IsDelta (files_added files.now at) [] entries.items) }
 {
@@ -45,7 +45,7 @@ pub(crate) fn log_bytes(alloc: Global, at: Instant, entries: &[Entry]) -> Result
     Ok(Bytes::from_vec(write_log(alloc, at, entries)?))
 }
 
-fn added_files(alloc: Global, at: Instant, files: &[FileText]) -> Result<Vec<FileAt>, AllocError>
+fn added_files(alloc: Global, at: Instant, files: &[NewFile]) -> Result<Vec<FileAt>, AllocError>
     ensures added { IfOk result (λ added. added.items ≡ files_added files.now at) }
     ensures small { IfOk result (λ added. All (λ file. file.size < 2 ^ 63) added.items) }
 {
@@ -57,11 +57,11 @@ fn added_files(alloc: Global, at: Instant, files: &[FileText]) -> Result<Vec<Fil
 }
 
 // Nothing of a greater size fits memory.
-fn added_file(at: Instant, file: &FileText) -> Result<FileAt, AllocError>
+fn added_file(at: Instant, file: &NewFile) -> Result<FileAt, AllocError>
     ensures added { IfOk result (λ added. added ≡ file_added at file.now) }
     ensures small { IfOk result (λ added. added.size < 2 ^ 63) }
 {
-    let size = file.text.as_str().len() as u64;
+    let size = file.bytes.len() as u64;
     if size > i64::MAX as u64 {
         return Err(AllocError);
     }

@@ -2,17 +2,17 @@ ghost use Rattle.std.specs.Prelude.{◌≡◌, ◌++◌, ◌∷◌, [], IfOk, Ma
 ghost use Rattle.std.specs.List.{list_any};
 ghost use Rattle.mx_commit.specs.Grouping as grouping;
 ghost use Rattle.mx_commit.specs.Written as spec;
-ghost use Rattle.mx_commit.specs.Written.{AreApartFiles, IsFirstDouble};
+ghost use Rattle.mx_commit.specs.Written.{AreApartFiles, IsFirstDouble, asked_group};
 
-use crate::Written;
-use mx_ask::FileText;
+use crate::{NewFile, Written};
+use mx_ask::FileRows;
 use mx_base::{Instant, Path};
 use mx_meta::WriteStat;
 use std::alloc::{AllocError, Global};
 
 /// The first file that is of the group of an earlier one.
-pub fn first_double(files: &[FileText]) -> Option<&FileText>
-    ensures { MatchOption result (AreApartFiles files.now) (λ file. IsFirstDouble files.now file.now) }
+pub fn first_double(files: &[FileRows]) -> Option<&FileRows>
+    ensures { MatchOption result (AreApartFiles asked_group files.now) (λ file. IsFirstDouble files.now file.now) }
 {
     for place in 0..files.len() {
         let file = &files[place];
@@ -24,7 +24,7 @@ pub fn first_double(files: &[FileText]) -> Option<&FileText>
 }
 
 // Whether one of the files is of the file's group.
-fn has_group(files: &[FileText], file: &FileText) -> bool
+fn has_group(files: &[FileRows], file: &FileRows) -> bool
     ensures { result ≡ list_any (grouping.is_same_group file.now) files.now }
 {
     for other in files {
@@ -35,7 +35,7 @@ fn has_group(files: &[FileText], file: &FileText) -> bool
     false
 }
 
-fn is_same_group(file: &FileText, other: &FileText) -> bool
+fn is_same_group(file: &FileRows, other: &FileRows) -> bool
     ensures { result ≡ grouping.is_same_group file.now other.now }
 {
     file.partition == other.partition
@@ -45,7 +45,7 @@ fn is_same_group(file: &FileText, other: &FileText) -> bool
 /// The entry of a file of a commit at an instant, where the commit `before` wrote the group's file before.
 pub fn written_file(
     alloc: Global,
-    file: &FileText,
+    file: &NewFile,
     at: Instant,
     before: Option<Instant>,
 ) -> Result<Written, AllocError>
@@ -55,8 +55,8 @@ pub fn written_file(
         partition: file.partition.clone()?,
         stat: WriteStat {
             file_id: file.file,
-            file_size_in_bytes: file.text.as_str().len() as u64,
-            num_writes: 0,
+            file_size_in_bytes: file.bytes.len() as u64,
+            num_writes: file.rows,
             path: Path::of_data_file(alloc, &file.partition, &file.file, at)?,
             prev_commit: before,
         },

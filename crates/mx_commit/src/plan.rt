@@ -1,6 +1,5 @@
 ghost use Rattle.std.specs.Prelude.{◌≡◌, ◌<◌, ◌++◌, ◌∷◌, [], All, IfOk, IsTrue, OnOk, Some, codes, map};
 ghost use Rattle.serde_json.specs.Written.{compact_text};
-ghost use Rattle.mx_ask.specs.Asks.{IsFileText};
 ghost use Rattle.mx_base.specs.Objects.{object_path};
 ghost use Rattle.mx_folder.specs.Named as named;
 ghost use Rattle.mx_folder.specs.Slices.{log_of};
@@ -11,12 +10,11 @@ ghost use Rattle.mx_meta.specs.PathLists.{path_list_data, path_list_of};
 ghost use Rattle.mx_meta.specs.ShardFiles.{delta_meta_data, delta_meta_of};
 ghost use Rattle.mx_store.specs.declared.change.Change.TheVariants.{Create};
 ghost use Rattle.mx_commit.specs.Changes.{IsPlanOf, added_changes, completion, data_changes, file_changes, files_planned, log_changes, logs_written};
-ghost use Rattle.mx_commit.specs.Written.{AreApartFiles, AreWritten, data_file};
+ghost use Rattle.mx_commit.specs.Written.{AreApartFiles, AreWritten, IsNamedFile, data_file, new_group};
 
-use crate::Written;
 use crate::adding::{added_entries, log_bytes};
 use crate::meta::meta_of;
-use mx_ask::FileText;
+use crate::{NewFile, Written};
 use mx_base::{
     ActionKind, ActionState, Entry, Instant, MetadataActionKind, ObjectName, Part, Path,
 };
@@ -29,14 +27,14 @@ use std::alloc::{AllocError, Global};
 pub fn plan_commit(
     alloc: Global,
     at: Instant,
-    files: &[FileText],
+    files: &[NewFile],
     written: &[Written],
 ) -> Result<Vec<Change>, AllocError>
     requires meant { 0 < at }
-    requires apart { AreApartFiles files.now }
+    requires apart { AreApartFiles new_group files.now }
     requires entries { AreWritten files.now at written.now }
     ensures plan { IfOk result (λ changes. IsPlanOf files.now written.now at changes.items) }
-    ensures names { OnOk result (All IsFileText files.now) }
+    ensures names { OnOk result (All IsNamedFile files.now) }
 {
     check_counts(written)?;
     let meta = meta_of(alloc, written)?;
@@ -70,11 +68,11 @@ fn push_files(
     alloc: Global,
     changes: &mut Vec<Change>,
     at: Instant,
-    files: &[FileText],
+    files: &[NewFile],
 ) -> Result<(), AllocError>
     ensures changes { OnOk result (changes.new.items ≡ changes.old.items ++ file_changes files.now at) }
     ensures reads { OnOk result (path_list_of (compact_text (path_list_data (files_planned files.now at))) ≡ Some (files_planned files.now at)) }
-    ensures names { OnOk result (All IsFileText files.now) }
+    ensures names { OnOk result (All IsNamedFile files.now) }
 {
     push(changes, mark(alloc, timeline(at, ActionState::Requested))?)?;
     let planned = planned_text(alloc, at, files)?;
@@ -89,10 +87,10 @@ fn push_data(
     alloc: Global,
     changes: &mut Vec<Change>,
     at: Instant,
-    files: &[FileText],
+    files: &[NewFile],
 ) -> Result<(), AllocError>
     ensures changes { OnOk result (changes.new.items ≡ changes.old.items ++ data_changes files.now at) }
-    ensures names { OnOk result (All IsFileText files.now) }
+    ensures names { OnOk result (All IsNamedFile files.now) }
 {
     for file in files {
         push(changes, data_change(alloc, at, file)?)?;
@@ -104,7 +102,7 @@ fn push_logs(
     alloc: Global,
     changes: &mut Vec<Change>,
     at: Instant,
-    files: &[FileText],
+    files: &[NewFile],
     entries: &[Entry],
 ) -> Result<(), AllocError>
     requires meant { 0 < at }
@@ -125,7 +123,7 @@ fn push_added(
     alloc: Global,
     changes: &mut Vec<Change>,
     at: Instant,
-    files: &[FileText],
+    files: &[NewFile],
     entries: &[Entry],
     log: Bytes,
 ) -> Result<(), AllocError>
@@ -176,7 +174,7 @@ fn mark(alloc: Global, name: ObjectName) -> Result<Change, AllocError>
     create(alloc, name, Bytes::from_slice(alloc, empty)?)
 }
 
-fn planned_text(alloc: Global, at: Instant, files: &[FileText]) -> Result<Bytes, AllocError>
+fn planned_text(alloc: Global, at: Instant, files: &[NewFile]) -> Result<Bytes, AllocError>
     ensures text { IfOk result (λ bytes. bytes ≡ compact_text (path_list_data (files_planned files.now at))) }
     ensures reads { OnOk result (path_list_of (compact_text (path_list_data (files_planned files.now at))) ≡ Some (files_planned files.now at)) }
 {
@@ -186,7 +184,7 @@ fn planned_text(alloc: Global, at: Instant, files: &[FileText]) -> Result<Bytes,
     list.print(alloc)
 }
 
-fn planned_paths(alloc: Global, at: Instant, files: &[FileText]) -> Result<Listed<Path>, AllocError>
+fn planned_paths(alloc: Global, at: Instant, files: &[NewFile]) -> Result<Listed<Path>, AllocError>
     ensures { IfOk result (λ paths. paths ≡ map (λ file. data_file file at) files.now) }
 {
     let mut paths = Listed::new(alloc);
@@ -196,7 +194,7 @@ fn planned_paths(alloc: Global, at: Instant, files: &[FileText]) -> Result<Liste
     Ok(paths)
 }
 
-fn logs_text(alloc: Global, at: Instant, files: &[FileText]) -> Result<Bytes, AllocError>
+fn logs_text(alloc: Global, at: Instant, files: &[NewFile]) -> Result<Bytes, AllocError>
     requires meant { 0 < at }
     ensures text { IfOk result (λ bytes. bytes ≡ compact_text (delta_meta_data (logs_written files.now at))) }
     ensures reads { OnOk result (delta_meta_of (compact_text (delta_meta_data (logs_written files.now at))) ≡ Some (logs_written files.now at)) }
@@ -205,7 +203,7 @@ fn logs_text(alloc: Global, at: Instant, files: &[FileText]) -> Result<Bytes, Al
     logs.print(alloc)
 }
 
-fn logs_written(alloc: Global, at: Instant, files: &[FileText]) -> Result<DeltaMeta, AllocError>
+fn logs_written(alloc: Global, at: Instant, files: &[NewFile]) -> Result<DeltaMeta, AllocError>
     requires meant { 0 < at }
     ensures { IfOk result (λ logs. logs ≡ logs_written files.now at) }
 {
@@ -218,7 +216,7 @@ fn logs_written(alloc: Global, at: Instant, files: &[FileText]) -> Result<DeltaM
     }
 }
 
-fn log_paths(alloc: Global, at: Instant, files: &[FileText]) -> Result<Listed<Path>, AllocError>
+fn log_paths(alloc: Global, at: Instant, files: &[NewFile]) -> Result<Listed<Path>, AllocError>
     ensures { IfOk result (λ logs. logs ≡ logs_written files.now at) }
 {
     match files {
@@ -237,15 +235,15 @@ fn create(alloc: Global, name: ObjectName, bytes: Bytes) -> Result<Change, Alloc
     Ok(Change::Create { path, bytes })
 }
 
-fn data_change(alloc: Global, at: Instant, file: &FileText) -> Result<Change, AllocError>
-    ensures change { IfOk result (λ change. change ≡ Create (data_file file.now at) file.now.text) }
-    ensures names { IsFileText file.now }
+fn data_change(alloc: Global, at: Instant, file: &NewFile) -> Result<Change, AllocError>
+    ensures change { IfOk result (λ change. change ≡ Create (data_file file.now at) file.now.bytes) }
+    ensures names { IsNamedFile file.now }
 {
     // The calls tell that the file's names are such.
     let _partition = file.partition.as_str();
     let _id = file.file.print();
     let path = Path::of_data_file(alloc, &file.partition, &file.file, at)?;
-    let bytes = Bytes::from_slice(alloc, file.text.as_str().as_bytes())?;
+    let bytes = file.bytes.clone()?;
     Ok(Change::Create { path, bytes })
 }
 

@@ -40,7 +40,9 @@ use Rattle.mx_folder.specs.Actions.{IsCompleted, action_at, actions_upto}
 use Rattle.mx_folder.specs.Slices.{entries_read, base_of, base_entries, logged_entries}
 use Rattle.mx_folder.specs.Begin.{first_mark, first_meta, first_config}
 use Rattle.mx_folder.specs.Reading.{IsEmptyObject, HasBase, named_bases, Reads, ReadsAsBase}
+use Rattle.mx_folder.specs.Files.{Lists}
 use Rattle.mx_folder.specs.Folder.{IsObjectAt, IsNeeded, IsOpenable, IsValidTable}
+use Rattle.mx_folder.proofs.ListedLemmas.{listed_completed}
 use Rattle.mx_folder.proofs.NamedLemmas.{object_at-is, object_at-stands, is_some_same, other_path}
 use Rattle.mx_folder.proofs.ActionLemmas.{action_at-none}
 
@@ -184,6 +186,9 @@ module _ (schema : List Column) where
   no_actions zero = ap option_to_list (none_at 0)
   no_actions (suc at) = ap (λ (done : List Action). done ++ option_to_list (action_at o (suc at))) (no_actions at) ∙ ap option_to_list (none_at (suc at))
 
+  none_listed : (q : List ℕ) → Lists o q → ⊥
+  none_listed q lists = none_completed lists.file.at (listed_completed o lists.upto lists.file lists.among)
+
   no_base_entries : base_entries o ≡ []
   unfolding base_entries
   no_base_entries = ap (λ (x : Option (List ℕ)). unwrap_or (option_and_then base_of x) []) (object_at-is o first_base refl ∙ base_stands) ∙ ap (λ (x : Option (List Entry)). unwrap_or x []) empty_base
@@ -247,4 +252,5 @@ module _ (schema : List Column) where
         ∙ nothing_shown key
         ∙ sym (expected-nothing key)
         ∙ ap (λ (done : List Action). expected_on key (files_map (listed_files done))) (sym (no_actions at));
+    holds = λ q lists. absurd (none_listed q lists);
   }

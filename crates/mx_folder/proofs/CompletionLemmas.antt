@@ -4,7 +4,7 @@ use Rattle.std.specs.Prelude.{option_and_then, option_to_list, fold, Contains, u
 use Rattle.std.specs.FinMap as finmap
 use Rattle.std.proofs.lemmas.Bool.{cases_lt}
 use Rattle.std.proofs.lemmas.Bool.Decides.{eqb_tells}
-use Rattle.std.proofs.lemmas.List.Elements.{All-contains}
+use Rattle.std.proofs.lemmas.List.Elements.{All-contains, Contains-append_cases}
 use Rattle.std.proofs.lemmas.Grind.{flat_map-append, fold-append}
 use Rattle.std.proofs.lemmas.List.{append-nil, append_assoc}
 use Rattle.mx_base.specs.Objects.{object_path}
@@ -23,11 +23,14 @@ use Rattle.mx_folder.proofs.SliceLemmas.{shown_on-append}
 use Rattle.mx_payload.specs.declared.payload.Payload.{Payload}
 use Rattle.mx_store.specs.Objects.{Objects, at_path}
 use Rattle.mx_store.proofs.Paths.{cases_path}
-use Rattle.mx_folder.specs.Named.{object_at, commit_name, delta_name, log_name, first_base, first_bases}
+use Rattle.mx_folder.specs.Named.{object_at, commit_name, delta_name, log_name, first_base, first_bases, is_hidden}
 use Rattle.mx_folder.specs.Actions.{IsCompleted, action_at, actions_upto}
 use Rattle.mx_folder.specs.Slices.{base_entries, entries_at, logged_entries, slice_at}
+use Rattle.mx_folder.specs.Files.{Lists, HoldsRows, place_of}
 use Rattle.mx_folder.specs.Folder.{IsObjectAt, IsNeeded, IsSound, IsOpenable, IsValidTable}
 use Rattle.mx_folder.specs.Steps.{DifferAt, MayComplete}
+use Rattle.mx_folder.proofs.ListedLemmas.{lists_outside, lists_same, holds_same}
+use Rattle.mx_folder.proofs.PendingLemmas.{hidden_object}
 use Rattle.mx_folder.proofs.NamedLemmas.{object_at-same, object_at-is, object_at-none, object_at-some, other_path, is_some_same}
 use Rattle.mx_folder.proofs.ReadingLemmas.{available_from, named_bases-same, reads_same}
 use Rattle.mx_folder.proofs.ActionLemmas.{action_at-some, base_entries-same, entries_at-same, upto_before, upto_from, logged_entries-same}
@@ -187,5 +190,26 @@ module _ (o n : Objects) (at : ℕ) (bytes : List ℕ) (may : MayComplete o at b
           ∙ may.logged (files_map (listed_files (actions_upto o p))) key
           ∙ ap (expected_on key) (sym (late_files p grown))
 
+  -- what is listed now was listed before, or is a file that the object lists
+  listed_from : (q : List ℕ) → Lists n q → Lists o q ⊎ HoldsRows o q
+  listed_from q lists = ⊎_elim
+      (λ (before : lists.upto < at). inl (lists_same o n q lists (upto_before o n at commit_same none_before may.newest action counts lists.upto before)))
+      (λ (within : at ≤ lists.upto). late (upto_from o n at commit_same none_before may.newest action counts lists.upto within))
+      (cases_lt lists.upto at)
+    where
+      late : actions_upto n lists.upto ≡ actions_upto o lists.upto ++ action ∷ [] → Lists o q ⊎ HoldsRows o q
+      late grown =
+          let files : listed_files (actions_upto n lists.upto) ≡ listed_files (actions_upto o lists.upto) ++ files_of action =
+          ap listed_files grown ∙ flat_map-append files_of (actions_upto o lists.upto) (action ∷ []) ∙ ap (λ (fs : List FileAt). listed_files (actions_upto o lists.upto) ++ fs) (append-nil (files_of action)) in
+          ⊎_elim
+          (λ (older : Contains (listed_files (actions_upto o lists.upto)) lists.file). inl (record { upto = lists.upto; file = lists.file; among = older; path_is = lists.path_is }))
+          (λ (newer : Contains (files_of action) lists.file). inr (subst (HoldsRows o) (sym lists.path_is) (All-contains (λ (file : FileAt). HoldsRows o (place_of file)) (files_of action) lists.file may.held newer)))
+          (Contains-append_cases (listed_files (actions_upto o lists.upto)) (files_of action) lists.file (subst (λ (fs : List FileAt). Contains fs lists.file) files lists.among))
+
+  completion_holds : IsValidTable o → (q : List ℕ) → Lists n q → HoldsRows n q
+  completion_holds valid q lists = holds_same o n q config_same
+      (differ q (λ same. absurd (cc (sym (lists_outside n q lists) ∙ ap is_hidden same ∙ hidden_object (commit_name at)))))
+      (⊎_elim (valid.holds q) (λ (h : HoldsRows o q). h) (listed_from q lists))
+
   pub completion_keeps : IsValidTable o → IsValidTable n
-  completion_keeps valid = record { opens = completion_opens valid.opens; shows = completion_shows valid }
+  completion_keeps valid = record { opens = completion_opens valid.opens; shows = completion_shows valid; holds = completion_holds valid }

@@ -2,6 +2,8 @@ pub mod NamedLemmas
 pub mod ReadingLemmas
 pub mod SliceLemmas
 pub mod ActionLemmas
+pub mod NamesReadLemmas
+pub mod ListedLemmas
 pub mod BeginLemmas
 pub mod LooseLemmas
 pub mod CompletionLemmas

@@ -14,8 +14,10 @@ use Rattle.mx_store.proofs.Paths.{cases_path}
 use Rattle.mx_folder.specs.Named.{object_at, commit_name, delta_name, log_name, first_base, first_bases}
 use Rattle.mx_folder.specs.Actions.{IsCompleted, actions_upto}
 use Rattle.mx_folder.specs.Slices.{base_entries, logged_entries}
+use Rattle.mx_folder.specs.Files.{Lists, HoldsRows}
 use Rattle.mx_folder.specs.Folder.{IsObjectAt, IsNeeded, IsSound, IsOpenable, IsValidTable}
 use Rattle.mx_folder.specs.Steps.{DifferAt, IsLoose, MayStand}
+use Rattle.mx_folder.proofs.ListedLemmas.{lists_same, holds_same}
 use Rattle.mx_folder.proofs.NamedLemmas.{object_at-same, is_some_same}
 use Rattle.mx_folder.proofs.ReadingLemmas.{available_from, named_bases-same, reads_same}
 use Rattle.mx_folder.proofs.ActionLemmas.{actions_upto-same, base_entries-same, logged_entries-same}
@@ -87,14 +89,23 @@ module _ (o n : Objects) (x : List ℕ) (differ : DifferAt x o n) (loose : IsLoo
     sound = λ q. ⊎_elim (λ (same : q ≡ x). subst (IsSound n) (sym same) (sound_here may)) (λ (other : q ≢ x). sound_other q other (opens.sound q)) (cases_path q x);
   }
 
+  actions_same : (p : ℕ) → actions_upto n p ≡ actions_upto o p
+  actions_same p = actions_upto-same o n p (λ at within. commit_same at) p (omega arith)
+
+  loose_holds : IsValidTable o → (q : List ℕ) → Lists n q → HoldsRows n q
+  loose_holds valid q lists =
+      let before = lists_same o n q lists (actions_same lists.upto) in
+      holds_same o n q config_same (differ q (λ same. loose.unlisted (subst (Lists o) same before))) (valid.holds q before)
+
   pub loose_keeps : IsValidTable o → MayStand o n x → IsValidTable n
   loose_keeps valid may = record {
     opens = loose_opens valid.opens may;
     shows = λ p key.
-        let same = actions_upto-same o n p (λ at within. commit_same at) p (omega arith) in
+        let same = actions_same p in
         ap (λ (done : List Action). shown_on key (base_entries n ++ logged_entries n done)) same
         ∙ ap (λ (es : List Entry). shown_on key (base_entries n ++ es)) (logged_entries-same o n log_same p)
         ∙ ap (λ (es : List Entry). shown_on key (es ++ logged_entries o (actions_upto o p))) (base_entries-same o n base_same)
         ∙ valid.shows p key
         ∙ ap (λ (done : List Action). expected_on key (files_map (listed_files done))) (sym same);
+    holds = loose_holds valid;
   }

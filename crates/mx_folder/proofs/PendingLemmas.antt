@@ -1,4 +1,4 @@
--- Nothing that counts rests on a commit before it is completed, nor on what stands outside `.hoodie/`.
+-- Nothing that counts rests on a commit before it is completed, nor on what stands outside `.hoodie/` and no commit lists.
 use Rattle.std.proofs.Common.{◌≡◌, ◌≢◌, inl, inr, ℕ, Bool, true, false, List, refl, sym, ◌∙◌, ap, subst, ◌&&◌}
 use Rattle.std.specs.Prelude.{not, nat_lt, ◌||◌}
 use Rattle.mx_base.specs.Objects.{IsObjectName, is_instant, object_path}
@@ -8,9 +8,21 @@ use Rattle.mx_base.proofs.ObjectLemmas.{object_path-injective}
 use Rattle.mx_store.specs.Objects.{Objects}
 use Rattle.mx_folder.specs.Named.{commit_name, delta_name, log_name, first_base, first_bases, is_hidden, IsHidden}
 use Rattle.mx_folder.specs.Actions.{IsCompleted}
+use Rattle.mx_folder.specs.Files.{Lists}
 use Rattle.mx_folder.specs.Folder.{IsNeeded}
+use Rattle.mx_folder.specs.Reading.{IsDataFileOf}
 use Rattle.mx_folder.specs.Steps.{IsLoose, IsMadeBefore}
+use Rattle.mx_folder.proofs.ListedLemmas.{data_outside, lists_outside, lists_completed}
 use Rattle.mx_folder.proofs.NamedLemmas.{object_at-stands}
+
+-- each object stands below `.hoodie/`
+pub hidden_object : (name : ObjectName) → IsHidden (object_path name)
+unfolding object_path
+hidden_object Config = refl
+hidden_object (Timeline at kind state) = refl
+hidden_object (Metadata at kind completed) = refl
+hidden_object (Base part shard upto kind) = refl
+hidden_object (Log part shard at) = refl
 
 delta_test : (a b : Bool) → (a && b) ≡ true → ((a || not true) && b) ≡ true
 delta_test true b h = h
@@ -43,34 +55,31 @@ module _ (o : Objects) (t : ℕ) (name : ObjectName) (is : IsObjectName name) (m
     commits = λ at is_commit same. as_name (commit_name at) is_commit same;
     logs = λ at done same. not_completed at done (as_name (log_name at) (log_named o at done) same);
     unneeded = unneeded;
+    unlisted = λ lists. absurd (cc (sym (lists_outside o (object_path name) lists) ∙ hidden_object name));
   }
 
 -- ---- what stands outside
-
--- each object stands below `.hoodie/`
-pub hidden_object : (name : ObjectName) → IsHidden (object_path name)
-unfolding object_path
-hidden_object Config = refl
-hidden_object (Timeline at kind state) = refl
-hidden_object (Metadata at kind completed) = refl
-hidden_object (Base part shard upto kind) = refl
-hidden_object (Log part shard at) = refl
 
 module _ (o : Objects) (x : List ℕ) (outer : is_hidden x ≡ false) where
   apart : (name : ObjectName) → x ≢ object_path name
   apart name same = absurd (cc (sym outer ∙ ap is_hidden same ∙ hidden_object name))
 
-  unneeded_outside : IsNeeded o x → ⊥
+  pub unneeded_outside : IsNeeded o x → ⊥
   unneeded_outside (inl delta) = apart (delta_name delta.0) delta.2
   unneeded_outside (inr (inl log)) = apart (Log log.part log.shard log.at) log.is_log
   unneeded_outside (inr (inr base)) = apart (Base base.part base.is_base.0 base.is_base.1 base.is_base.2) base.is_base.4
 
-  pub outside_loose : IsLoose o x
-  outside_loose = record {
+  pub outside_loose : ¬ (Lists o x) → IsLoose o x
+  outside_loose unlisted = record {
     config = apart Config;
     base = apart first_base;
     bases = apart first_bases;
     commits = λ at is. apart (commit_name at);
     logs = λ at done. apart (log_name at);
     unneeded = unneeded_outside;
+    unlisted = unlisted;
   }
+
+-- a data file of a commit that is not completed
+pub pending_file_loose : (o : Objects) (at : ℕ) (path : List ℕ) → IsDataFileOf at path → ¬ (IsCompleted o at) → IsLoose o path
+pending_file_loose o at path of pending = outside_loose o path (data_outside path of.0 of.1) (λ lists. pending (lists_completed o path lists at of))

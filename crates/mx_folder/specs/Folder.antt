@@ -1,4 +1,4 @@
--- When a folder opens as a table, and when its index shows what its commits list.
+-- When a folder opens as a table, and when it is a valid one: its index shows what its commits list, and what they list is there.
 use Rattle.std.specs.Prelude.{◌≡◌, ◌⊎◌, ℕ, List, Contains, Some, IsSome, option_and_then}
 use Rattle.mx_base.specs.Objects.{IsObjectName, object_path}
 use Rattle.mx_base.specs.declared.object_name.ObjectName.{ObjectName}
@@ -14,6 +14,7 @@ use Rattle.mx_folder.specs.Named.{object_at, delta_name, IsHidden}
 use Rattle.mx_folder.specs.Actions.{IsCompleted, actions_upto}
 use Rattle.mx_folder.specs.Slices.{slice_at}
 use Rattle.mx_folder.specs.Reading.{Reads, IsAvailable, IsBaseOf, named_bases}
+use Rattle.mx_folder.specs.Files.{Lists, HoldsRows}
 
 -- the path is the one of this object, whose bytes are of its kind
 pub record IsObjectAt (objects : Objects) (path bytes : List ℕ) : Type 0 where
@@ -66,7 +67,9 @@ pub record IsOpenable (objects : Objects) : Type 0 where
   pub config : IsSome (object_at objects Config)
   pub sound : (path : List ℕ) → IsSound objects path
 
--- and at every instant the slice shows on each key what is expected of the files that the commits up to it list
+-- and at every instant the slice shows on each key what is expected of the files that the commits up to it list; and each file that
+-- is listed stands and holds rows of the table's schema
 pub record IsValidTable (objects : Objects) : Type 0 where
   pub opens : IsOpenable objects
   pub shows : (at : ℕ) (key : List ℕ) → shown_on key (slice_at objects at) ≡ expected_on key (files_map (listed_files (actions_upto objects at)))
+  pub holds : (path : List ℕ) → Lists objects path → HoldsRows objects path

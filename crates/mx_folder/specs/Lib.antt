@@ -3,6 +3,7 @@ pub mod Actions
 pub mod Slices
 pub mod Completed
 pub mod Reading
+pub mod Files
 pub mod Folder
 pub mod Steps
 pub mod Begin

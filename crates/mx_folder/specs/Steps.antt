@@ -2,6 +2,7 @@
 use Rattle.std.specs.Prelude.{◌≡◌, ◌≢◌, ℕ, ◌<◌, List, ◌++◌, All, Some, None, IsSome, fold}
 use Rattle.std.specs.Option.{option_to_list}
 use Rattle.mx_base.specs.Objects.{IsObjectName, object_path}
+use Rattle.mx_base.specs.declared.entry.FileAt.{FileAt}
 use Rattle.mx_base.specs.declared.object_name.ActionKind.TheVariants as action
 use Rattle.mx_base.specs.declared.object_name.ActionState.TheVariants.{Requested, Inflight, Completed}
 use Rattle.mx_base.specs.declared.object_name.MetadataActionKind.TheVariants as metadata
@@ -19,6 +20,7 @@ use Rattle.mx_folder.specs.Named.{object_at, commit_name, delta_name, log_name, 
 use Rattle.mx_folder.specs.Actions.{IsCompleted}
 use Rattle.mx_folder.specs.Slices.{entries_at}
 use Rattle.mx_folder.specs.Reading.{NamesItsFiles}
+use Rattle.mx_folder.specs.Files.{Lists, HoldsRows, place_of}
 use Rattle.mx_folder.specs.Folder.{IsObjectAt, IsNeeded}
 
 -- the folders differ at this path at most
@@ -26,7 +28,7 @@ abbrev pub DifferAt : List ℕ → Objects → Objects → Type 0
 DifferAt path old new = (other : List ℕ) → other ≢ path → at_path new other ≡ at_path old other
 
 -- nothing that counts rests on the path: it is neither the config nor the first base nor the object that names it, no completed
--- commit is told by it, no log of one stands there, and it is not needed
+-- commit is told by it, no log of one stands there, it is not needed, and no commit lists a file there
 pub record IsLoose (objects : Objects) (path : List ℕ) : Type 0 where
   pub config : path ≢ object_path Config
   pub base : path ≢ object_path first_base
@@ -34,13 +36,14 @@ pub record IsLoose (objects : Objects) (path : List ℕ) : Type 0 where
   pub commits : (at : ℕ) → IsObjectName (commit_name at) → path ≢ object_path (commit_name at)
   pub logs : (at : ℕ) → IsCompleted objects at → path ≢ object_path (log_name at)
   pub unneeded : ¬ (IsNeeded objects path)
+  pub unlisted : ¬ (Lists objects path)
 
 -- what then stands there is nothing, or an object of its kind, or no object of the table's own
 abbrev pub MayStand : Objects → Objects → List ℕ → Type 0
 MayStand old new path = (bytes : List ℕ) → IsHidden path → at_path new path ≡ Some bytes → IsObjectAt old path bytes
 
--- the commit of the instant may be completed by this object: it is the newest one, its logs stand, and over what is expected of
--- any files its log shows what is expected of these and the files that the object lists
+-- the commit of the instant may be completed by this object: it is the newest one, its logs stand, over what is expected of any
+-- files its log shows what is expected of these and the files that the object lists, and these hold rows of the table's schema
 pub record MayComplete (objects : Objects) (at : ℕ) (bytes : List ℕ) : Type 0 where
   pub is_name : IsObjectName (commit_name at)
   pub absent : at_path objects (object_path (commit_name at)) ≡ None
@@ -54,6 +57,7 @@ pub record MayComplete (objects : Objects) (at : ℕ) (bytes : List ℕ) : Type 
   pub delta_reads : delta_meta_of delta ≡ Some logs
   pub stand : All (λ path. IsSome (at_path objects path)) logs
   pub logged : (files : FilesMap) (key : List ℕ) → shown (option_to_list (expected_on key files) ++ payloads_on_key key (entries_at objects at)) ≡ expected_on key (fold with_file files (files_of (record { at = at; meta = meta })))
+  pub held : All (λ (file : FileAt). HoldsRows objects (place_of file)) (files_of (record { at = at; meta = meta }))
 
 -- an object that a commit of the instant makes before the one that completes it
 abbrev pub IsMadeBefore : ℕ → ObjectName → Type 0

@@ -10,7 +10,9 @@ ghost use Rattle.mx_folder.specs.Named.{commit_name, is_hidden};
 ghost use Rattle.mx_folder.specs.Actions.{IsCompleted, action_at, actions_upto};
 ghost use Rattle.mx_folder.specs.Slices.{entries_at, logged_entries};
 ghost use Rattle.mx_folder.specs.Completed.{completed_upto};
+ghost use Rattle.mx_folder.specs.Files.{Lists};
 ghost use Rattle.mx_folder.specs.Folder.{IsValidTable};
+ghost use Rattle.mx_folder.specs.Reading.{IsDataFileOf};
 ghost use Rattle.mx_folder.specs.Steps.{DifferAt, IsLoose, MayStand, IsMadeBefore, MayComplete};
 
 /// A change at a path on which nothing that counts rests keeps a table, whether an object is made there or taken away.
@@ -23,9 +25,14 @@ pub fn a_pending_commit_is_loose()
     ensures { (objects : Objects) (at : ℕ) (name : ObjectName) → IsObjectName name → IsMadeBefore at name → ¬ (IsCompleted objects at) → IsLoose objects (object_path name) }
 {}
 
-/// Nothing that counts rests on what stands outside `.hoodie/`.
-pub fn what_is_outside_is_loose()
-    ensures { (objects : Objects) (path : List ℕ) → is_hidden path ≡ false → IsLoose objects path }
+/// Nothing that counts rests on what stands outside `.hoodie/` and no commit lists.
+pub fn what_is_not_listed_is_loose()
+    ensures { (objects : Objects) (path : List ℕ) → is_hidden path ≡ false → ¬ (Lists objects path) → IsLoose objects path }
+{}
+
+/// Nothing that counts rests on a data file of a commit that is not completed.
+pub fn a_pending_file_is_loose()
+    ensures { (objects : Objects) (at : ℕ) (path : List ℕ) → IsDataFileOf at path → ¬ (IsCompleted objects at) → IsLoose objects path }
 {}
 
 /// The create that completes a commit keeps a table, where the commit may be completed by it.

@@ -2,7 +2,7 @@
 use Rattle.std.proofs.Common.{◌≡◌, ◌≢◌, ◌⊎◌, inl, inr, ℕ, ◌+◌, ◌<◌, ◌^◌, List, [], ◌∷◌, length, Option, Some, None, refl, sym, ◌∙◌, ap, subst, arith}
 use Rattle.std.specs.Prelude.{IfOk, IfSome, Result, Ok, Err}
 use Rattle.mx_ask.specs.declared.ask.Ask.{Ask}
-use Rattle.mx_ask.specs.declared.ask.FileText.{FileText}
+use Rattle.mx_ask.specs.declared.ask.FileRows.{FileRows}
 use Rattle.mx_ask.specs.declared.ask.Question.{Question}
 use Rattle.mx_ask.specs.declared.reply.Refusal.{Refusal}
 use Rattle.mx_ask.specs.declared.reply.Reply.{Reply}
@@ -18,7 +18,7 @@ use Rattle.mx_world.specs.declared.error.ChangeError.TheVariants as changes
 use Rattle.mx_world.specs.declared.mirror.Mirror.{Mirror}
 use Rattle.mx_world.specs.State.{Holds, Settles, Stands, Standing}
 use Rattle.mx_writer.specs.declared.committing.CommitError.{CommitError}
-use Rattle.mx_writer.specs.declared.committing.CommitError.TheVariants.{TooMany, DuplicateGroup, InstantsUsedUp, Stopped}
+use Rattle.mx_writer.specs.declared.committing.CommitError.TheVariants.{TooMany, DuplicateGroup, BadRow, DuplicateRow, TooLarge, InstantsUsedUp, Stopped}
 use Rattle.mx_writer.specs.Commit.{Commits, CountsCommit}
 use Rattle.mx_hub.specs.declared.answered.Answered.{Answered}
 use Rattle.mx_hub.specs.Answers.{AnswersQuestion, AnswersSettled, CommitsFiles, CountsRefusal, CountsReply, IsAnswered, IsRefusedFor, IsCounted, IsReplyTo, paths_at, IsShown, WasTable, commit_refusal, look_reply, store_refusal}
@@ -32,6 +32,9 @@ counts_store T before now store.NoMemory is = is
 pub counts_commit : (before now : ℕ) (why : CommitError) → CountsCommit before now (Err why) → CountsRefusal before now (commit_refusal why)
 counts_commit before now (TooMany what count) is = is
 counts_commit before now (DuplicateGroup partition file) is = is
+counts_commit before now (BadRow place) is = is
+counts_commit before now (DuplicateRow key) is = is
+counts_commit before now (TooLarge bytes) is = is
 counts_commit before now InstantsUsedUp is = is
 counts_commit before now (Stopped changes.StoreFault) is = is
 counts_commit before now (Stopped changes.NoMemory) is = is
@@ -81,7 +84,7 @@ module _ (opening journal : Option (List Change)) (m : Mirror) (last applied : �
 
 -- ---- a commit
 
-module _ (files : List FileText) (before after : Standing) where
+module _ (files : List FileRows) (before after : Standing) where
   pub ran_short : after ≡ before → CommitsFiles files before after (Err (Stopped changes.NoMemory))
   ran_short same = inr (record { refused = refl; same = same })
 
@@ -93,7 +96,7 @@ module _ (files : List FileText) (before after : Standing) where
     ended = Ok at;
     commits = commits;
     reply_is = ap (λ (fs : List (List ℕ)). Reply.Committed at fs)
-        (made (let next = commits.1 in let small = commits.2 in omega (arith, next, small)) ∙ ap (paths_at files) (sym commits.1));
+        (made (let next = commits.ends.1 in let small = commits.ends.2 in omega (arith, next, small)) ∙ ap (paths_at files) (sym commits.ends.1));
   }
 
 -- ---- a look-up

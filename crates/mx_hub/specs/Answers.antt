@@ -2,7 +2,7 @@
 use Rattle.std.specs.Prelude.{◌≡◌, ◌⊎◌, ℕ, ◌+◌, ◌≤◌, List, length, map, Option, Some, None, IfOk, IfSome, Result, Ok, Err}
 use Rattle.mx_ask.specs.declared.ask.Ask.{Ask}
 use Rattle.mx_ask.specs.declared.ask.AskKind.{AskKind}
-use Rattle.mx_ask.specs.declared.ask.FileText.{FileText}
+use Rattle.mx_ask.specs.declared.ask.FileRows.{FileRows}
 use Rattle.mx_ask.specs.declared.ask.Question.{Question}
 use Rattle.mx_ask.specs.declared.reply.Refusal.{Refusal}
 use Rattle.mx_ask.specs.declared.reply.Reply.{Reply}
@@ -21,8 +21,8 @@ use Rattle.mx_world.specs.declared.error.ChangeError.{ChangeError}
 use Rattle.mx_world.specs.declared.error.ChangeError.TheVariants as changes
 use Rattle.mx_world.specs.State.{Standing, Settles}
 use Rattle.mx_writer.specs.declared.committing.CommitError.{CommitError}
-use Rattle.mx_writer.specs.declared.committing.CommitError.TheVariants.{TooMany, DuplicateGroup, InstantsUsedUp, Stopped}
-use Rattle.mx_commit.specs.Written.{data_file}
+use Rattle.mx_writer.specs.declared.committing.CommitError.TheVariants.{TooMany, DuplicateGroup, BadRow, DuplicateRow, TooLarge, InstantsUsedUp, Stopped}
+use Rattle.mx_base.specs.Paths.{data_path}
 use Rattle.mx_writer.specs.Commit.{Commits}
 use Rattle.mx_hub.specs.declared.answered.Answered.{Answered}
 
@@ -44,26 +44,29 @@ change_refusal (changes.InDoubt path) = Refusal.NoMemory
 abbrev pub commit_refusal : CommitError → Refusal
 commit_refusal (TooMany what count) = Refusal.TooMany what count
 commit_refusal (DuplicateGroup partition file) = Refusal.DuplicateGroup partition file
+commit_refusal (BadRow place) = Refusal.BadRow place.file place.row place.column
+commit_refusal (DuplicateRow key) = Refusal.DuplicateRow key
+commit_refusal (TooLarge bytes) = Refusal.TooLarge bytes
 commit_refusal InstantsUsedUp = Refusal.InstantsUsedUp
 commit_refusal (Stopped why) = change_refusal why
 
 -- where the data files of the instant stand, in the order of the ask
-abbrev pub paths_at : List FileText → ℕ → List (List ℕ)
-paths_at files at = map (λ (file : FileText). data_file file at) files
+abbrev pub paths_at : List FileRows → ℕ → List (List ℕ)
+paths_at files at = map (λ (file : FileRows). data_path file.partition file.file at) files
 
 -- the reply to a commit of files that ended so
-abbrev pub commit_reply : List FileText → Result ℕ CommitError → Reply
+abbrev pub commit_reply : List FileRows → Result ℕ CommitError → Reply
 commit_reply files (Ok at) = Reply.Committed at (paths_at files at)
 commit_reply files (Err why) = Reply.Refused (commit_refusal why)
 
 -- a commit of the files was made, or refused, or ended early, and the reply tells how it ended
-pub record AnswersCommit (files : List FileText) (before after : Standing) (reply : Reply) : Type 0 where
+pub record AnswersCommit (files : List FileRows) (before after : Standing) (reply : Reply) : Type 0 where
   pub ended : Result ℕ CommitError
   pub commits : Commits files before after ended
   pub reply_is : reply ≡ commit_reply files ended
 
 -- or memory was wanted before
-abbrev pub AnswersCommits : List FileText → Standing → Standing → Reply → Type 0
+abbrev pub AnswersCommits : List FileRows → Standing → Standing → Reply → Type 0
 AnswersCommits files before after reply = AnswersCommit files before after reply ⊎ RunsShort before after reply
 
 -- ---- a look-up
@@ -140,6 +143,9 @@ CountsRefusal before now Refusal.NoMemory = now ≡ before
 CountsRefusal before now (Refusal.Changed path) = now ≡ before
 CountsRefusal before now (Refusal.TooMany what count) = now ≡ before
 CountsRefusal before now (Refusal.DuplicateGroup partition file) = now ≡ before
+CountsRefusal before now (Refusal.BadRow file row column) = now ≡ before
+CountsRefusal before now (Refusal.DuplicateRow key) = now ≡ before
+CountsRefusal before now (Refusal.TooLarge bytes) = now ≡ before
 CountsRefusal before now (Refusal.Expired floor) = now ≡ before
 
 abbrev pub CountsReply : ℕ → ℕ → Reply → Type 0
@@ -151,7 +157,7 @@ CountsReply before now (Reply.Refused refusal) = CountsRefusal before now refusa
 -- ---- for private clauses
 
 -- the same of a commit before its reply is made
-abbrev pub CommitsFiles : List FileText → Standing → Standing → Result Reply CommitError → Type 0
+abbrev pub CommitsFiles : List FileRows → Standing → Standing → Result Reply CommitError → Type 0
 CommitsFiles files before after (Ok reply) = AnswersCommit files before after reply
 CommitsFiles files before after (Err why) = AnswersCommits files before after (Reply.Refused (commit_refusal why))
 

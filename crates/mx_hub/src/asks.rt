@@ -4,7 +4,7 @@ ghost use Rattle.mx_hub.specs.Answers as spec;
 ghost use Rattle.mx_hub.specs.Answers.{AnswersCommits, AnswersQuestion, AnswersSettled, CommitsFiles, CountsEnded, CountsReply, IsAnswered, IsRefusedFor, IsReplyTo, paths_at};
 
 use crate::answered::Answered;
-use mx_ask::{Ask, AskKind, FileText, Question, Refusal, Reply};
+use mx_ask::{Ask, AskKind, FileRows, Question, Refusal, Reply};
 use mx_base::{Instant, Path};
 use mx_lists::Listed;
 use mx_lookup::look_up;
@@ -87,7 +87,7 @@ fn reply_to<S: Store, N: Named>(alloc: Global, table: &mut World<S, N>, ask: &As
 fn commit_replied<S: Store, N: Named>(
     alloc: Global,
     table: &mut World<S, N>,
-    files: &[FileText],
+    files: &[FileRows],
 ) -> Reply
     requires sure { table.old.doubt ≡ None }
     ensures reply { AnswersCommits files.now (standing S.journal table.old) (standing S.journal table.new) result }
@@ -105,7 +105,7 @@ fn commit_replied<S: Store, N: Named>(
 fn commit_files<S: Store, N: Named>(
     alloc: Global,
     table: &mut World<S, N>,
-    files: &[FileText],
+    files: &[FileRows],
 ) -> Result<Reply, CommitError>
     requires sure { table.old.doubt ≡ None }
     ensures commits { CommitsFiles files.now (standing S.journal table.old) (standing S.journal table.new) result }
@@ -117,7 +117,7 @@ fn commit_files<S: Store, N: Named>(
 }
 
 // The paths of the files at the next instant, none where there is no further instant.
-fn next_paths(alloc: Global, last: Instant, files: &[FileText]) -> Result<Listed<Path>, AllocError>
+fn next_paths(alloc: Global, last: Instant, files: &[FileRows]) -> Result<Listed<Path>, AllocError>
     ensures { IfOk result (λ paths. last + 1 < 10 ^ 17 → paths ≡ paths_at files.now (last + 1)) }
 {
     match last.next() {
@@ -126,7 +126,7 @@ fn next_paths(alloc: Global, last: Instant, files: &[FileText]) -> Result<Listed
     }
 }
 
-fn paths_of(alloc: Global, at: Instant, files: &[FileText]) -> Result<Listed<Path>, AllocError>
+fn paths_of(alloc: Global, at: Instant, files: &[FileRows]) -> Result<Listed<Path>, AllocError>
     ensures { IfOk result (λ paths. paths ≡ paths_at files.now at) }
 {
     let mut paths = Listed::new(alloc);
@@ -173,6 +173,13 @@ fn commit_refusal(error: CommitError) -> Refusal
         CommitError::DuplicateGroup { partition, file } => {
             Refusal::DuplicateGroup { partition, file }
         }
+        CommitError::BadRow { place } => Refusal::BadRow {
+            file: place.file,
+            row: place.row,
+            column: place.column,
+        },
+        CommitError::DuplicateRow { key } => Refusal::DuplicateRow { key },
+        CommitError::TooLarge { bytes } => Refusal::TooLarge { bytes },
         CommitError::InstantsUsedUp => Refusal::InstantsUsedUp,
         CommitError::Stopped { why } => change_refusal(why),
     }

@@ -16,7 +16,7 @@ use Rattle.mx_store.proofs.Paths.{at_nothing, at_same, at_other, cases_path}
 use Rattle.mx_folder.specs.Named.{object_at, commit_name, delta_name, first_bases, is_hidden, IsHidden}
 use Rattle.mx_folder.specs.Folder.{IsObjectAt, IsNeeded, IsSound}
 use Rattle.mx_folder.proofs.NamedLemmas.{object_at-same, is_some_same}
-use Rattle.mx_folder.proofs.PendingLemmas.{hidden_object, outside_loose}
+use Rattle.mx_folder.proofs.PendingLemmas.{hidden_object, unneeded_outside}
 use Rattle.mx_folder.proofs.ReadingLemmas.{available_from, named_bases-same, reads_same}
 use Rattle.mx_open.specs.Deciding.{Adds, AreHeld, IsFine, IsUnharmed}
 use Rattle.mx_open.specs.Leaving.{AreNamesOf}
@@ -164,7 +164,7 @@ module _ (h o : Objects) (inner : (q : List ℕ) → IsHidden q → at_path h q 
       fine bytes stands = by_hidden q (λ hidden. object_down q bytes (sound.object bytes hidden (sym (inner q hidden) ∙ stands))) (λ outside. absurd (cc (sym (outer q outside) ∙ stands)))
 
       present : IsNeeded o q → IsSome (at_path h q)
-      present needed = by_hidden q (λ hidden. is_some_same _ _ (inner q hidden) (sound.present needed)) (λ outside. absurd ((outside_loose o q outside).unneeded needed))
+      present needed = by_hidden q (λ hidden. is_some_same _ _ (inner q hidden) (sound.present needed)) (λ outside. absurd (unneeded_outside o q outside needed))
 
 -- ---- what is told of the folder
 

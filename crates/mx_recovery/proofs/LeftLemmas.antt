@@ -1,19 +1,13 @@
 -- Nothing that counts rests on what pending commits left.
-use Rattle.std.proofs.Common.{◌≡◌, ◌≢◌, ◌⊎◌, inl, inr, ⊎_elim, ℕ, arith, Bool, true, false, cond, List, [], ◌∷◌, ◌++◌, get_or, Option, Some, None, IsSome, is_some, refl, sym, ◌∙◌, ap, subst, nat_eq}
+use Rattle.std.proofs.Common.{◌≡◌, ◌⊎◌, inl, inr, ⊎_elim, ℕ, arith, Bool, true, false, cond, List, [], ◌∷◌, ◌++◌, Option, Some, None, IsSome, is_some, refl, sym, ◌∙◌, ap, subst}
 use Rattle.std.specs.Prelude.{All, Contains, nat_lt, not, ◌&&◌, ◌||◌, option_and_then}
 use Rattle.std.specs.FinMap as finmap
 use Rattle.std.specs.List.{flat_map}
 use Rattle.std.specs.Option.{option_map_or}
-use Rattle.std.proofs.lemmas.Bool.{false_from_ne_true}
-use Rattle.std.proofs.lemmas.Bool.Decides.{nat_tests}
 use Rattle.std.proofs.lemmas.List.Elements.{All-cons, All-head, All-tail, All-append, All-contains, All-weaker}
-use Rattle.mx_base.specs.DataFiles.{IsDataFileAt}
 use Rattle.mx_base.specs.Objects.{IsObjectName, is_object_name, is_instant, object_path}
-use Rattle.mx_base.specs.Paths.{data_path, data_file_name}
-use Rattle.mx_base.specs.declared.data_file.DataFile.{DataFile}
 use Rattle.mx_base.specs.declared.object_name.ObjectName.{ObjectName}
 use Rattle.mx_base.specs.declared.object_name.ObjectName.TheVariants.{Config, Log}
-use Rattle.mx_base.proofs.NameLemmas.{IsPartition-no_dot}
 use Rattle.mx_base.proofs.ObjectLemmas.{object_path-injective}
 use Rattle.mx_meta.specs.PathLists.{path_list_of}
 use Rattle.mx_meta.specs.declared.path_list.PathList.{PathList}
@@ -22,7 +16,7 @@ use Rattle.mx_store.specs.declared.change.Change.TheVariants.{Delete}
 use Rattle.mx_store.specs.Objects.{Objects, at_path, objects_of, after_all}
 use Rattle.mx_store.proofs.Journal.{objects_of-push}
 use Rattle.mx_store.proofs.Paths.{at_left, at_removed}
-use Rattle.mx_folder.specs.Named.{object_at, commit_name, delta_name, is_hidden}
+use Rattle.mx_folder.specs.Named.{object_at, commit_name, delta_name}
 use Rattle.mx_folder.specs.Actions.{IsCompleted}
 use Rattle.mx_folder.specs.Folder.{IsOpenable, IsValidTable}
 use Rattle.mx_folder.specs.Pending.{requested_name, inflight_name, delta_mark, inflight_files, IsPending, ArePicked, IsLeft, ArePending, left_by, deletes, instants_of}
@@ -31,7 +25,7 @@ use Rattle.mx_folder.specs.Steps.{IsLoose, IsMadeBefore}
 use Rattle.mx_folder.specs.declared.pending.Pending.{Pending}
 use Rattle.mx_folder.proofs.LooseLemmas.{loose_keeps}
 use Rattle.mx_folder.proofs.NamedLemmas.{object_at-same, object_at-stands, object_at-some, object_at-is, is_some_same}
-use Rattle.mx_folder.proofs.PendingLemmas.{pending_loose, outside_loose, hidden_object}
+use Rattle.mx_folder.proofs.PendingLemmas.{pending_loose, pending_file_loose, hidden_object}
 use Rattle.mx_world.specs.Mirror.{IsNoConfig}
 use Rattle.mx_world.specs.State.{MayChange}
 use Rattle.mx_world.specs.Turns.{MayChangeInTurn}
@@ -40,12 +34,12 @@ use Rattle.mx_recovery.proofs.DeleteLemmas.{among_head, among_tail, among_cases,
 
 -- ---- what may be taken away
 
--- the path is one outside, or of an object that a commit makes before its completion, which is not completed
+-- the path is of a data file, or of an object that a commit makes before its completion, where the commit is not completed
 abbrev pub MayGo : Objects → List ℕ → Type 0
-MayGo o path = (is_hidden path ≡ false) ⊎ ((at : ℕ) × (name : ObjectName) × IsObjectName name × IsMadeBefore at name × (path ≡ object_path name) × ¬ (IsCompleted o at))
+MayGo o path = ((at : ℕ) × IsDataFileOf at path × ¬ (IsCompleted o at)) ⊎ ((at : ℕ) × (name : ObjectName) × IsObjectName name × IsMadeBefore at name × (path ≡ object_path name) × ¬ (IsCompleted o at))
 
 pub loose_path : (o : Objects) (path : List ℕ) → MayGo o path → IsLoose o path
-loose_path o path (inl outer) = outside_loose o path outer
+loose_path o path (inl (at, of, pending)) = pending_file_loose o at path of pending
 loose_path o path (inr (at, name, named, made, is, pending)) = subst (IsLoose o) (sym is) (pending_loose o at name named made pending)
 
 -- no commit is completed by a delete
@@ -53,7 +47,7 @@ commit_left : (o : Objects) (path : List ℕ) → IsLoose o path → (at : ℕ) 
 commit_left o path loose at = object_at-same o (finmap.remove o path) (commit_name at) (λ named. at_left o path (object_path (commit_name at)) (λ same. loose.commits at named (sym same)))
 
 go_later : (o : Objects) (path other : List ℕ) → IsLoose o path → MayGo o other → MayGo (finmap.remove o path) other
-go_later o path other loose (inl outer) = inl outer
+go_later o path other loose (inl (at, of, pending)) = inl (at, of, λ done. pending (is_some_same _ _ (sym (commit_left o path loose at)) done))
 go_later o path other loose (inr (at, name, named, made, is, pending)) = inr (at, name, named, made, is, λ done. pending (is_some_same _ _ (sym (commit_left o path loose at)) done))
 
 delete_keeps : (o : Objects) (path : List ℕ) → IsLoose o path → IsValidTable o → IsValidTable (finmap.remove o path)
@@ -82,26 +76,6 @@ may_in_turn journal o last is (x ∷ xs) may =
     step true stands gone kept loose = λ after drawn. (may_delete journal after x (ap (λ (m : Objects). is_some (at_path m x)) is ∙ stands) (subst (λ (m : Objects). IsLoose m x) (sym is) loose), gone after)
     step false stands gone kept loose = kept
 
--- ---- data files stand outside
-
-same_first : (a : ℕ) (more : List ℕ) → is_hidden (a ∷ more) ≡ true → nat_eq 46 a ≡ true
-same_first a more is = first (nat_eq 46 a) _ is
-  where
-    first : (x y : Bool) → (x && y) ≡ true → x ≡ true
-    first true y h = refl
-    first false y h = absurd (cc h)
-
-eq_first : (a : ℕ) → nat_eq 46 a ≡ true → 46 ≡ a
-eq_first a is = grind (arith, nat_tests)
-
-outside_first : (partition rest : List ℕ) → get_or partition 0 46 ≢ 46 → is_hidden (partition ++ rest) ≡ false
-outside_first [] rest no_dot = absurd (no_dot refl)
-outside_first (a ∷ more) rest no_dot = false_from_ne_true (is_hidden (a ∷ (more ++ rest))) (λ hidden. no_dot (sym (eq_first a (same_first a (more ++ rest) hidden))))
-
-pub data_outside : (path : List ℕ) (file : DataFile) → IsDataFileAt path file → is_hidden path ≡ false
-unfolding data_path
-data_outside path file is = ap is_hidden is.is ∙ outside_first file.partition (47 ∷ data_file_name file.file file.at) (IsPartition-no_dot file.partition is.partition)
-
 -- ---- what pending commits left may go
 
 picked_all : (P : List ℕ → Type 0) (xs picked : List (List ℕ)) → ArePicked P xs picked → All P picked
@@ -120,15 +94,12 @@ delta_test false b c h = absurd (cc h)
 delta_named : (at : ℕ) → IsObjectName (requested_name at) → IsObjectName (delta_name at)
 delta_named at is = delta_test (nat_lt 0 at) (is_instant at) (not true) is
 
--- the files that a list of files has are data files
-listed_outside : (o : Objects) → IsOpenable o → (at : ℕ) → All (λ (path : List ℕ). is_hidden path ≡ false) (inflight_files o at)
+-- the files that a list of files has are data files of its instant
+inflight_data : (o : Objects) → IsOpenable o → (at : ℕ) → All (IsDataFileOf at) (inflight_files o at)
 unfolding inflight_files
-listed_outside o opens at = from (object_at o (inflight_name at)) refl
+inflight_data o opens at = from (object_at o (inflight_name at)) refl
   where
-    outside : (path : List ℕ) → IsDataFileOf at path → is_hidden path ≡ false
-    outside path (file, is, same) = data_outside path file is
-
-    none : All (λ (path : List ℕ). is_hidden path ≡ false) []
+    none : All (IsDataFileOf at) []
     none = λ k d within. absurd (omega (arith, within))
 
     read : (bytes : List ℕ) → object_at o (inflight_name at) ≡ Some bytes → Reads o (inflight_name at) bytes
@@ -137,11 +108,11 @@ listed_outside o opens at = from (object_at o (inflight_name at)) refl
         let object = (opens.sound (object_path (inflight_name at))).object bytes (hidden_object (inflight_name at)) found.1 in
         subst (λ (name : ObjectName). Reads o name bytes) (sym (object_path-injective (inflight_name at) object.name found.0 object.is_name object.path_is)) object.reads
 
-    listed : (list : Option PathList) → ((l : PathList) → list ≡ Some l → All (IsDataFileOf at) l.paths) → All (λ (path : List ℕ). is_hidden path ≡ false) (option_map_or (λ (l : PathList). l.paths) list [])
+    listed : (list : Option PathList) → ((l : PathList) → list ≡ Some l → All (IsDataFileOf at) l.paths) → All (IsDataFileOf at) (option_map_or (λ (l : PathList). l.paths) list [])
     listed None are = none
-    listed (Some l) are = All-weaker (IsDataFileOf at) (λ (path : List ℕ). is_hidden path ≡ false) outside l.paths (are l refl)
+    listed (Some l) are = are l refl
 
-    from : (bytes : Option (List ℕ)) → object_at o (inflight_name at) ≡ bytes → All (λ (path : List ℕ). is_hidden path ≡ false) (option_map_or (λ (l : PathList). l.paths) (option_and_then path_list_of bytes) [])
+    from : (bytes : Option (List ℕ)) → object_at o (inflight_name at) ≡ bytes → All (IsDataFileOf at) (option_map_or (λ (l : PathList). l.paths) (option_and_then path_list_of bytes) [])
     from None is = none
     from (Some bytes) is = listed (path_list_of bytes) (λ l same.
         let reads = read bytes is in subst (λ (r : PathList). All (IsDataFileOf at) r.paths) (some_same reads.0 l (sym reads.1 ∙ same)) reads.2)
@@ -172,7 +143,7 @@ module _ (o : Objects) (opens : IsOpenable o) where
       (All-cons (MayGo o) (object_path (delta_name left.at)) (object_path (delta_mark left.at) ∷ files_on left) (inr (left.at, delta_name left.at, delta_named left.at named, refl, refl, pending))
       (All-cons (MayGo o) (object_path (delta_mark left.at)) (files_on left) (inr (left.at, delta_mark left.at, delta_named left.at named, refl, refl, pending))
       (All-append (MayGo o) left.files (last_two left)
-      (subst (All (MayGo o)) (sym is.files) (All-weaker (λ (path : List ℕ). is_hidden path ≡ false) (MayGo o) (λ path outer. inl outer) (inflight_files o left.at) (listed_outside o opens left.at)))
+      (subst (All (MayGo o)) (sym is.files) (All-weaker (IsDataFileOf left.at) (MayGo o) (λ path of. inl (left.at, of, pending)) (inflight_files o left.at) (inflight_data o opens left.at)))
       (All-cons (MayGo o) (object_path (inflight_name left.at)) (object_path (requested_name left.at) ∷ []) (inr (left.at, inflight_name left.at, named, refl, refl, pending))
       (All-cons (MayGo o) (object_path (requested_name left.at)) [] (inr (left.at, requested_name left.at, named, refl, refl, pending)) none_go)))))
 

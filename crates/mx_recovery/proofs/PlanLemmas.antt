@@ -25,6 +25,7 @@ use Rattle.mx_folder.specs.Named.{is_hidden}
 use Rattle.mx_folder.specs.Folder.{IsOpenable}
 use Rattle.mx_folder.specs.Pending.{deletes, left_by, recovery_changes}
 use Rattle.mx_folder.specs.declared.pending.Pending.{Pending}
+use Rattle.mx_folder.proofs.ListedLemmas.{data_outside}
 use Rattle.mx_folder.proofs.NamedLemmas.{object_at-is}
 use Rattle.mx_folder.proofs.PendingLemmas.{hidden_object}
 use Rattle.mx_world.specs.Instants.{NamesInstant, instant_of}
@@ -34,7 +35,7 @@ use Rattle.mx_open.specs.declared.folder.Folder.{Folder}
 use Rattle.mx_recovery.specs.Recovering.{IsLast, NamedIn}
 use Rattle.mx_recovery.specs.Planning.{IsGreatestOf, GoesOver, IsLastOf, stands_among, AreStanding}
 use Rattle.mx_recovery.proofs.DeleteLemmas.{among_none, among_head, among_tail, among_cases, among_front, deletes-append, after_all-append}
-use Rattle.mx_recovery.proofs.LeftLemmas.{data_outside, all_may_go, no_config}
+use Rattle.mx_recovery.proofs.LeftLemmas.{all_may_go, no_config}
 
 -- ---- the instant that a path names
 

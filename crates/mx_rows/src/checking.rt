@@ -4,15 +4,15 @@ ghost use Rattle.mx_rows.specs.Checks.{FilesFit, IsFirstBadRow, RowsFit};
 ghost use Rattle.mx_rows.specs.Found.{IsFirstBadIn};
 
 use crate::bad_row::BadRow;
-use mx_lists::Listed;
+use mx_ask::FileRows;
 use mx_schema::{Row, Schema};
 
 /// The first place of the files' rows that is not what the schema asks for.
-pub fn first_bad_row(schema: &Schema, files: &[Listed<Row>]) -> Option<BadRow>
+pub fn first_bad_row(schema: &Schema, files: &[FileRows]) -> Option<BadRow>
     ensures { MatchOption result (FilesFit schema.now files.now) (IsFirstBadRow schema.now files.now) }
 {
     for file in 0..files.len() {
-        if let Some((row, column)) = first_bad_in_file(schema, files[file].as_slice()) {
+        if let Some((row, column)) = first_bad_in_file(schema, files[file].rows.as_slice()) {
             return Some(BadRow {
                 file: file as u64,
                 row,
@@ -39,12 +39,12 @@ fn first_bad_in_file(schema: &Schema, rows: &[Row]) -> Option<(u64, u32)>
 pub const MOST_ROWS: usize = 16_384;
 
 /// How many rows the first file has that has more than it may.
-pub fn first_too_many(files: &[Listed<Row>]) -> Option<u64>
+pub fn first_too_many(files: &[FileRows]) -> Option<u64>
     ensures { result ≡ spec.first_too_many files.now }
 {
-    for rows in files {
-        if rows.len() > MOST_ROWS {
-            return Some(rows.len() as u64);
+    for file in files {
+        if file.rows.len() > MOST_ROWS {
+            return Some(file.rows.len() as u64);
         }
     }
     None

@@ -3,17 +3,18 @@ ghost use Rattle.mx_rows.specs.Checks as spec;
 ghost use Rattle.mx_rows.specs.Checks.{AreDistinct, HaveDistinct, IsFirstDouble, IsFirstDoubleRow, keys_of};
 ghost use Rattle.mx_rows.specs.Found.{HasKeys, IsMet, IsDouble};
 
-use mx_lists::{Listed, Text};
+use mx_ask::FileRows;
+use mx_lists::Text;
 use mx_schema::{Row, RowValue};
 use std::alloc::{AllocError, Global};
 use std::collections::BTreeSet;
 
 /// The key of the first row that has that of an earlier row of its file.
-pub fn first_double(alloc: Global, files: &[Listed<Row>]) -> Result<Option<Text>, AllocError>
+pub fn first_double(alloc: Global, files: &[FileRows]) -> Result<Option<Text>, AllocError>
     ensures { IfOk result (λ found. MatchOption found (HaveDistinct files.now) (IsFirstDoubleRow files.now)) }
 {
-    for rows in files {
-        if let Some(key) = double_in_file(alloc, rows.as_slice())? {
+    for file in files {
+        if let Some(key) = double_in_file(alloc, file.rows.as_slice())? {
             return Ok(Some(key));
         }
     }

@@ -3,8 +3,9 @@ ghost use Rattle.mx_rows.specs.Checks.{RowsFit};
 
 use super::*;
 use crate::tests::{GOOD, Given, files_of, schema_of};
+use mx_ask::FileRows;
 use mx_base::{Instant, Partition};
-use mx_lists::{Listed, Text};
+use mx_lists::Text;
 use mx_parquet::FullRow;
 use mx_schema::{Cell, Row, Schema};
 use std::alloc::{AllocError, AllocGlobal};
@@ -14,14 +15,14 @@ use std::test::*;
 const FILE: &str = "11111111-1111-4111-8111-111111111111_0-0-0_20250101000000000.parquet";
 
 // The rows of the only one of the files, where they fit.
-fn only<'a>(schema: &Schema, files: &'a [Listed<Row>]) -> Option<&'a [Row]>
+fn only<'a>(schema: &Schema, files: &'a [FileRows]) -> Option<&'a [Row]>
     ensures { IfSome result (λ rows. RowsFit schema.now rows.now) }
 {
     if first_bad_row(schema, files).is_some() {
         return None;
     }
     match files {
-        [file] => Some(file.as_slice()),
+        [file] => Some(file.rows.as_slice()),
         _ => None,
     }
 }
@@ -34,7 +35,7 @@ fn filled<R: Abort + AllocGlobal>(
 ) -> Result<Vec<FullRow>, AllocError> {
     let alloc = rt.alloc();
     let schema = schema_of(rt, schema);
-    let files = files_of(alloc, &[rows])?;
+    let files = files_of(rt, &[rows])?;
     let rows = only(&schema, files.as_slice()).expect(rt, "rows that fit");
     let place = Place {
         at: Instant::new(20_250_101_000_000_000).expect(rt, "an instant"),

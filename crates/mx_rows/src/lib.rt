@@ -10,7 +10,7 @@
 //! | `first_bad_row` | the first place that is not what the schema asks for, none exactly where each row fits |
 //! | `first_double` | the key of the first row that has that of an earlier one of its file, none exactly where there is none |
 //! | `first_too_many` | how many rows the first file has that has more than 16,384, none exactly where no file has |
-//! | `full_rows` | the rows of a data file, which a file of the schema can hold |
+//! | `full_rows` | the rows of a data file, which a file of the schema can hold, with texts in UTF-8 |
 #![tactic(auto)]
 
 mod bad_row;

@@ -1,4 +1,6 @@
 use super::*;
+use mx_ask::FileRows;
+use mx_base::{FileId, Partition};
 use mx_lists::{Listed, Text};
 use mx_schema::{Row, RowValue, Schema};
 use std::alloc::{AllocError, AllocGlobal, Global};
@@ -27,7 +29,7 @@ fn row_of(alloc: Global, elements: &[Given<'_>]) -> Result<Row, AllocError> {
     Ok(row)
 }
 
-fn file_of(alloc: Global, rows: &[&[Given<'_>]]) -> Result<Listed<Row>, AllocError> {
+fn rows_of(alloc: Global, rows: &[&[Given<'_>]]) -> Result<Listed<Row>, AllocError> {
     let mut file = Listed::new(alloc);
     for row in rows {
         file.push(row_of(alloc, row)?)?;
@@ -35,15 +37,27 @@ fn file_of(alloc: Global, rows: &[&[Given<'_>]]) -> Result<Listed<Row>, AllocErr
     Ok(file)
 }
 
-pub(super) fn files_of(
-    alloc: Global,
+pub(super) fn files_of<R: Abort + AllocGlobal>(
+    rt: &R,
     files: &[&[&[Given<'_>]]],
-) -> Result<Vec<Listed<Row>>, AllocError> {
-    let mut out = Vec::new(alloc);
+) -> Result<Vec<FileRows>, AllocError> {
+    let mut out = Vec::new(rt.alloc());
     for file in files {
-        out.push(file_of(alloc, file)?)?;
+        out.push(file_with(rt, rows_of(rt.alloc(), file)?))?;
     }
     Ok(out)
+}
+
+fn file_with<R: Abort + AllocGlobal>(rt: &R, rows: Listed<Row>) -> FileRows {
+    FileRows {
+        file: FileId::parse("11111111-1111-4111-8111-111111111111")
+            .ok()
+            .expect(rt, "a file id"),
+        partition: Partition::parse(rt.alloc(), "2024-01-01")
+            .ok()
+            .expect(rt, "a partition"),
+        rows,
+    }
 }
 
 pub(super) fn schema_of<R: Abort + AllocGlobal>(rt: &R, text: &str) -> Schema {
@@ -56,7 +70,7 @@ fn place_of<R: Abort + AllocGlobal>(
     files: &[&[&[Given<'_>]]],
 ) -> Result<Option<BadRow>, AllocError> {
     let schema = schema_of(rt, "a:int64");
-    let files = files_of(rt.alloc(), files)?;
+    let files = files_of(rt, files)?;
     Ok(first_bad_row(&schema, files.as_slice()))
 }
 
@@ -117,7 +131,7 @@ fn element_of<R: Abort + AllocGlobal>(
     row: [Given<'_>; 4],
 ) -> Result<Option<u32>, AllocError> {
     let schema = schema_of(rt, "a:int32,b:string?,c:boolean");
-    let files = files_of(rt.alloc(), &[&[&row]])?;
+    let files = files_of(rt, &[&[&row]])?;
     Ok(first_bad_row(&schema, files.as_slice()).map(|bad| bad.column))
 }
 
@@ -158,13 +172,13 @@ fn a_row_is_bad_at_its_first_element_out_of_range(rt: HostRuntime) -> Result<(),
 }
 
 // Whether the first double of files is this key.
-fn has_double(
-    alloc: Global,
+fn has_double<R: Abort + AllocGlobal>(
+    rt: &R,
     files: &[&[&[Given<'_>]]],
     wanted: Option<&str>,
 ) -> Result<bool, AllocError> {
-    let files = files_of(alloc, files)?;
-    let found = first_double(alloc, files.as_slice())?;
+    let files = files_of(rt, files)?;
+    let found = first_double(rt.alloc(), files.as_slice())?;
     Ok(match (found, wanted) {
         (Some(found), Some(wanted)) => found.as_str() == wanted,
         (None, None) => true,
@@ -177,12 +191,12 @@ fn the_first_row_with_the_key_of_an_earlier_one_of_its_file_is_found(
     rt: HostRuntime,
 ) -> Result<(), Fail> {
     for (files, wanted) in DOUBLES {
-        assert!(rt; has_double(rt.alloc(), files, wanted)?, "{wanted:?}");
+        assert!(rt; has_double(&rt, files, wanted)?, "{wanted:?}");
     }
     Ok(())
 }
 
-fn rows_of(alloc: Global, count: usize) -> Result<Listed<Row>, AllocError> {
+fn empty_rows(alloc: Global, count: usize) -> Result<Listed<Row>, AllocError> {
     let mut rows = Listed::new(alloc);
     for _ in 0..count {
         rows.push(Listed::new(alloc))?;
@@ -191,23 +205,26 @@ fn rows_of(alloc: Global, count: usize) -> Result<Listed<Row>, AllocError> {
 }
 
 // How many rows the first of two files has that has too many.
-fn too_many(alloc: Global, first: usize, second: usize) -> Result<Option<u64>, AllocError> {
-    let mut files = Vec::new(alloc);
-    files.push(rows_of(alloc, first)?)?;
-    files.push(rows_of(alloc, second)?)?;
+fn too_many<R: Abort + AllocGlobal>(
+    rt: &R,
+    first: usize,
+    second: usize,
+) -> Result<Option<u64>, AllocError> {
+    let mut files = Vec::new(rt.alloc());
+    files.push(file_with(rt, empty_rows(rt.alloc(), first)?))?;
+    files.push(file_with(rt, empty_rows(rt.alloc(), second)?))?;
     Ok(first_too_many(files.as_slice()))
 }
 
 #[test]
 fn a_file_has_at_most_16_384_rows(rt: HostRuntime) -> Result<(), Fail> {
-    let alloc = rt.alloc();
     let cases = [
         (16_384, 16_384, None),
         (2, 16_385, Some(16_385)),
         (16_386, 16_385, Some(16_386)),
     ];
     for (first, second, found) in cases {
-        assert_eq!(rt; too_many(alloc, first, second)?, found);
+        assert_eq!(rt; too_many(&rt, first, second)?, found);
     }
     assert_eq!(rt; first_too_many(&[]), None);
     Ok(())

@@ -2,12 +2,11 @@
 use Rattle.std.proofs.Common.{◌≡◌, ◌≢◌, ◌⊎◌, inl, inr, ⊎_elim, ℕ, ◌≤◌, ◌<◌, arith, Bool, true, false, List, [], ◌∷◌, ◌++◌, get_or, Option, Some, None, refl, sym, ◌∙◌, ap, subst, append_assoc}
 use Rattle.std.specs.Prelude.{unwrap_or, max, nat_eq, ◌&&◌}
 use Rattle.std.specs.FinMap as finmap
-use Rattle.std.proofs.lemmas.Bool.{cases_lt, false_from_ne_true}
+use Rattle.std.proofs.lemmas.Bool.{cases_lt}
 use Rattle.std.proofs.lemmas.Bool.Decides.{nat_tests}
 use Rattle.std.proofs.lemmas.List.{append-nil}
 use Rattle.mx_base.specs.DataFiles.{IsDataFileAt}
 use Rattle.mx_base.specs.Objects.{IsObjectName, object_path}
-use Rattle.mx_base.specs.Paths.{data_path, data_file_name}
 use Rattle.mx_base.specs.declared.data_file.DataFile.{DataFile}
 use Rattle.mx_base.specs.declared.object_name.ActionKind.TheVariants as action
 use Rattle.mx_base.specs.declared.object_name.ActionState.TheVariants.{Requested, Inflight, Completed}
@@ -15,12 +14,12 @@ use Rattle.mx_base.specs.declared.object_name.MetadataActionKind.TheVariants as 
 use Rattle.mx_base.specs.declared.object_name.ObjectName.{ObjectName}
 use Rattle.mx_base.specs.declared.object_name.ObjectName.TheVariants.{Config, Timeline, Metadata, Base, Log}
 use Rattle.mx_base.proofs.DataLemmas.{the_file}
-use Rattle.mx_base.proofs.NameLemmas.{IsPartition-no_dot, length-IsFileId}
+use Rattle.mx_base.proofs.NameLemmas.{length-IsFileId}
 use Rattle.mx_base.proofs.ObjectLemmas.{object_path-injective}
 use Rattle.mx_store.specs.declared.change.Change.{Change}
 use Rattle.mx_store.specs.declared.change.Change.TheVariants.{Create, Put, Delete}
 use Rattle.mx_store.specs.Journal.{AreAllowed}
-use Rattle.mx_store.specs.Objects.{Objects, at_path, objects_of}
+use Rattle.mx_store.specs.Objects.{Objects, at_path, after_all, objects_of}
 use Rattle.mx_store.proofs.Journal.{objects_of-push}
 use Rattle.mx_store.proofs.Paths.{at_same, at_other}
 use Rattle.mx_folder.specs.Named.{commit_name, is_hidden}
@@ -30,30 +29,13 @@ use Rattle.mx_folder.specs.Reading.{Reads, IsDataFileOf}
 use Rattle.mx_folder.specs.Steps.{IsLoose, MayStand, IsMadeBefore}
 use Rattle.mx_folder.proofs.LooseLemmas.{loose_keeps}
 use Rattle.mx_folder.proofs.NamedLemmas.{object_at-same, is_some_same}
-use Rattle.mx_folder.proofs.PendingLemmas.{pending_loose, hidden_object, outside_loose}
+use Rattle.mx_folder.proofs.ListedLemmas.{data_outside}
+use Rattle.mx_folder.proofs.PendingLemmas.{pending_loose, pending_file_loose, hidden_object}
 use Rattle.mx_world.specs.Instants.{NamesInstant, AreUpto, Requests, IsDrawnBy, instant_of}
 use Rattle.mx_world.specs.State.{MayChange}
 use Rattle.mx_world.specs.Turns.{MayChangeInTurn}
 
 -- ---- data files stand outside
-
-same_first : (a : ℕ) (more : List ℕ) → is_hidden (a ∷ more) ≡ true → nat_eq 46 a ≡ true
-same_first a more is = first (nat_eq 46 a) _ is
-  where
-    first : (x y : Bool) → (x && y) ≡ true → x ≡ true
-    first true y h = refl
-    first false y h = absurd (cc h)
-
-eq_first : (a : ℕ) → nat_eq 46 a ≡ true → 46 ≡ a
-eq_first a is = grind (arith, nat_tests)
-
-outside_first : (partition rest : List ℕ) → get_or partition 0 46 ≢ 46 → is_hidden (partition ++ rest) ≡ false
-outside_first [] rest no_dot = absurd (no_dot refl)
-outside_first (a ∷ more) rest no_dot = false_from_ne_true (is_hidden (a ∷ (more ++ rest))) (λ hidden. no_dot (sym (eq_first a (same_first a (more ++ rest) hidden))))
-
-pub data_outside : (path : List ℕ) (file : DataFile) → IsDataFileAt path file → is_hidden path ≡ false
-unfolding data_path
-data_outside path file is = ap is_hidden is.is ∙ outside_first file.partition (47 ∷ data_file_name file.file file.at) (IsPartition-no_dot file.partition is.partition)
 
 pub never_both : (path : List ℕ) (name : ObjectName) (file : DataFile) → path ≡ object_path name → IsDataFileAt path file → ⊥
 never_both path name file is stored = absurd (cc (sym (data_outside path file stored) ∙ ap is_hidden is ∙ hidden_object name))
@@ -108,7 +90,7 @@ early_names t path bytes (inr file) = inr file
 module _ (o : Objects) (t : ℕ) (path bytes : List ℕ) (pending : ¬ (IsCompleted o t)) where
   pub early_loose : IsEarly t path bytes → IsLoose o path
   early_loose (inl (name, named, is, made, reads)) = subst (IsLoose o) (sym is) (pending_loose o t name named made pending)
-  early_loose (inr (file, stored, dated)) = outside_loose o path (data_outside path file stored)
+  early_loose (inr file) = pending_file_loose o t path file pending
 
   stands_then : (b : List ℕ) → at_path (finmap.insert o path bytes) path ≡ Some b → bytes ≡ b
   stands_then b is = ap (λ (x : Option (List ℕ)). unwrap_or x bytes) (sym (at_same o path bytes) ∙ is)
@@ -216,3 +198,37 @@ allowed_absent o [] distinct absent = tt
 allowed_absent o (Create path bytes ∷ changes) distinct absent = (absent.0, allowed_absent (finmap.insert o path bytes) changes distinct.1 (absent_still o path bytes changes distinct.0 absent.1))
 allowed_absent o (Put path bytes ∷ changes) distinct absent = absurd distinct
 allowed_absent o (Delete path ∷ changes) distinct absent = absurd distinct
+
+-- what stands elsewhere is as it was
+pub kept : (o : Objects) (path : List ℕ) (changes : List Change) → AreApart path changes → at_path (after_all o changes) path ≡ at_path o path
+kept o path [] apart = refl
+kept o path (Create other bytes ∷ changes) apart = kept (finmap.insert o other bytes) path changes apart.1 ∙ at_other o other bytes path (λ same. apart.0 (sym same))
+kept o path (Put other bytes ∷ changes) apart = absurd apart
+kept o path (Delete other ∷ changes) apart = absurd apart
+
+-- ---- what is created stands
+
+-- one of the changes creates this
+abbrev pub Creates : List ℕ → List ℕ → List Change → Type 0
+Creates path bytes [] = ⊥
+Creates path bytes (Create other more ∷ changes) = ((other ≡ path) × (more ≡ bytes)) ⊎ Creates path bytes changes
+Creates path bytes (Put other more ∷ changes) = Creates path bytes changes
+Creates path bytes (Delete other ∷ changes) = Creates path bytes changes
+
+pub creates_front : (path bytes : List ℕ) (xs ys : List Change) → Creates path bytes xs → Creates path bytes (xs ++ ys)
+creates_front path bytes [] ys never = absurd never
+creates_front path bytes (Create other more ∷ xs) ys (inl here) = inl here
+creates_front path bytes (Create other more ∷ xs) ys (inr later) = inr (creates_front path bytes xs ys later)
+creates_front path bytes (Put other more ∷ xs) ys later = creates_front path bytes xs ys later
+creates_front path bytes (Delete other ∷ xs) ys later = creates_front path bytes xs ys later
+
+pub created_stands : (o : Objects) (path bytes : List ℕ) (changes : List Change) → AreDistinct changes → Creates path bytes changes → at_path (after_all o changes) path ≡ Some bytes
+created_stands o path bytes [] distinct never = absurd never
+created_stands o path bytes (Create other more ∷ changes) distinct (inl here) =
+    kept (finmap.insert o other more) path changes (subst (λ (p : List ℕ). AreApart p changes) here.0 distinct.0)
+    ∙ ap (λ (p : List ℕ). at_path (finmap.insert o other more) p) (sym here.0)
+    ∙ at_same o other more
+    ∙ ap (λ (b : List ℕ). Some b) here.1
+created_stands o path bytes (Create other more ∷ changes) distinct (inr later) = created_stands (finmap.insert o other more) path bytes changes distinct.1 later
+created_stands o path bytes (Put other more ∷ changes) distinct later = absurd distinct
+created_stands o path bytes (Delete other ∷ changes) distinct later = absurd distinct

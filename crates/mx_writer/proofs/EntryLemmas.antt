@@ -2,7 +2,7 @@
 use Rattle.std.proofs.Common.{◌≡◌, ◌≢◌, ℕ, List, [], ◌∷◌, ◌++◌, Option, Some, None, sym, subst}
 use Rattle.std.specs.Prelude.{All, IfSome}
 use Rattle.std.proofs.lemmas.List.Elements.{All-nil, All-push}
-use Rattle.mx_ask.specs.declared.ask.FileText.{FileText}
+use Rattle.mx_commit.specs.declared.new_file.NewFile.{NewFile}
 use Rattle.mx_base.specs.Paths.{group_name}
 use Rattle.mx_commit.specs.declared.written.Written.{Written}
 use Rattle.mx_commit.proofs.WrittenLemmas.{more_written}
@@ -43,7 +43,7 @@ before_some (Some j) group newest some is = (some, is)
 
 -- ---- one entry more
 
-tells : (journal : Option (List Change)) (file : FileText) (at : ℕ) (w : Written) → IsEntryOf journal file at w → IfSome journal (λ (j : List Change). TellsBefore (objects_of j) w)
+tells : (journal : Option (List Change)) (file : NewFile) (at : ℕ) (w : Written) → IsEntryOf journal file at w → IfSome journal (λ (j : List Change). TellsBefore (objects_of j) w)
 tells None file at w is = tt
 tells (Some j) file at w is = subst (λ (x : Written). IsCommitBefore (objects_of j) (group_name x.partition x.stat.file_id) x.stat.prev_commit) (sym is.1) is.2
 
@@ -51,7 +51,7 @@ all_tell : (journal : Option (List Change)) (ws : List Written) (w : Written) �
 all_tell None ws w all one = tt
 all_tell (Some j) ws w all one = All-push (TellsBefore (objects_of j)) ws w all one
 
-pub more_entries : (journal : Option (List Change)) (files : List FileText) (at : ℕ) (ws : List Written) (file : FileText) (w : Written) → AreEntries journal files at ws → IsEntryOf journal file at w → AreEntries journal (files ++ file ∷ []) at (ws ++ w ∷ [])
+pub more_entries : (journal : Option (List Change)) (files : List NewFile) (at : ℕ) (ws : List Written) (file : NewFile) (w : Written) → AreEntries journal files at ws → IsEntryOf journal file at w → AreEntries journal (files ++ file ∷ []) at (ws ++ w ∷ [])
 more_entries journal files at ws file w are is = (more_written files at ws file is.0 w are.0 is.1, all_tell journal ws w are.1 (tells journal file at w is))
 
 pub no_entries : (journal : Option (List Change)) (at : ℕ) → AreEntries journal [] at []

@@ -1,3 +1,4 @@
 pub mod EarlyLemmas
 pub mod CommitLemmas
 pub mod EntryLemmas
+pub mod EndLemmas

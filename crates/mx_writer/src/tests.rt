@@ -1,16 +1,16 @@
 ghost use Rattle.std.specs.Prelude.{◌≡◌, IfOk, None};
 
 use crate::{CommitError, commit};
-use mx_ask::FileText;
+use mx_ask::{FileRows, Limit};
 use mx_base::{FileId, Instant, Part, Partition, Path};
 use mx_lists::{Bytes, Listed, Text};
 use mx_meta::{CommitMeta, PartitionStats, WriteStat};
 use mx_model::Action;
 use mx_props::Props;
-use mx_schema::Schema;
+use mx_schema::{Row, RowValue, Schema};
 use mx_store::{MemStore, Store, StoreError};
 use mx_world::{ChangeError, Mirror, World};
-use std::alloc::Global;
+use std::alloc::{AllocError, Global};
 use std::marker::Brand;
 use std::test::Fail;
 
@@ -60,9 +60,41 @@ impl Store for Quiet {
 
 const MOMENT: u64 = 20_250_101_000_000_000;
 
-// The log of one file of 5 bytes, as tools/print-index-objects prints it.
+// The log of one file of 693 bytes, as tools/print-index-objects prints it.
 const LOG: &[u8] =
-    b"#HUDI#\x00\x01\x00G\xf1\\\x0c\xc5R\x00\x00\x00\x00\x00\x00\x00\x01\x01DATABLK*\x00\x00\x00\x8d\x00\x0a2024-01-01\x00\x00\x00P\x00\x04\x02\x02\x88\x0111111111-1111-4111-8111-111111111111_0-0-0_20250101000000000.parquet\x0a\x00\x00\x00\x00\x00\x00\x12__all_partitions__\x00\x00\x00\x15\x00\x02\x02\x02\x142024-01-01\x00\x00\x00\x00\x00\x00IDXROOT2\x00\x00\x00\x1c\x00\x00\x00\x01\x00\x00\x00\x00\x00\x00\x00\x00\x00\x00\x00\x99\x00\x0a2024-01-01MDTTRAIL\x00\x00\x00\x01\x00\x00\x00\x00\x00\x00\x00\x00\x00\x00\x00\x99\x00\x00\x00\x00\x00\x00\x00(\x00\x00\x00\x00\x00\x00\x00\x02\x00\x00\x00\x01\x00\x00\x00\x00\x00\x00\x00\x00\x00\x00\x00\x00\x00\x00\x00\x00\x00\x00\x00\x00";
+    b"#HUDI#\x00\x01\x00G\xf1\\\x0c\xc5R\x00\x00\x00\x00\x00\x00\x00\x01\x02DATABLK*\x00\x00\x00\x8e\x00\x0a2024-01-01\x00\x00\x00Q\x00\x04\x02\x02\x88\x0111111111-1111-4111-8111-111111111111_0-0-0_20250101000000000.parquet\xea\x0a\x00\x00\x00\x00\x00\x00\x12__all_partitions__\x00\x00\x00\x15\x00\x02\x02\x02\x142024-01-01\x00\x00\x00\x00\x00\x00IDXROOT2\x00\x00\x00\x1c\x00\x00\x00\x01\x00\x00\x00\x00\x00\x00\x00\x00\x00\x00\x00\x9a\x00\x0a2024-01-01MDTTRAIL\x00\x00\x00\x01\x00\x00\x00\x00\x00\x00\x00\x00\x00\x00\x00\x9a\x00\x00\x00\x00\x00\x00\x00(\x00\x00\x00\x00\x00\x00\x00\x02\x00\x00\x00\x01\x00\x00\x00\x00\x00\x00\x00\x00\x00\x00\x00\x00\x00\x00\x00\x00\x00\x00\x00\x00";
+
+// The file of one row, as tools/check-parquet-with-thrift makes it.
+const ONE_ROW: &[u8] =
+    b"PAR1\x15\x00\x15*\x15*,\x15\x02\x15\x00\x15\x06\x15\x06\x00\x00\x11\x00\x00\
+    \x0020250101000000000\x15\x00\x152\x152\
+    ,\x15\x02\x15\x00\x15\x06\x15\x06\x00\x00\x15\x00\x00\x00202501010\
+    00000000_0_0\x15\x00\x15\x0a\x15\x0a,\x15\x02\x15\x00\x15\
+    \x06\x15\x06\x00\x00\x01\x00\x00\x00a\x15\x00\x15\x1c\x15\x1c,\x15\x02\x15\x00\x15\x06\x15\
+    \x06\x00\x00\x0a\x00\x00\x002024-01-01\x15\x00\x15\x90\x01\x15\x90\
+    \x01,\x15\x02\x15\x00\x15\x06\x15\x06\x00\x00D\x00\x00\x0011111111\
+    -1111-4111-8111-11111111\
+    1111_0-0-0_2025010100000\
+    0000.parquet\x15\x00\x15\x10\x15\x10,\x15\x02\x15\x00\x15\
+    \x06\x15\x06\x00\x00\x01\x00\x00\x00\x00\x00\x00\x00\x15\x02\x19|H\x05table\
+    \x15\x0c\x00\x15\x0c%\x00\x18\x13_hoodie_commit_\
+    time%\x00\x00\x15\x0c%\x00\x18\x14_hoodie_com\
+    mit_seqno%\x00\x00\x15\x0c%\x00\x18\x12_hoodi\
+    e_record_key%\x00\x00\x15\x0c%\x00\x18\x16_ho\
+    odie_partition_path%\x00\x00\x15\x0c\
+    %\x00\x18\x11_hoodie_file_name%\x00\x00\
+    \x15\x04%\x00\x18\x01a\x00\x16\x02\x19\x1c\x19l&\x08\x1c\x15\x0c\x19%\x00\x06\x19\
+    \x18\x13_hoodie_commit_time\x15\x00\x16\
+    \x02\x16L\x16L&\x08\x00\x00&T\x1c\x15\x0c\x19%\x00\x06\x19\x18\x14_ho\
+    odie_commit_seqno\x15\x00\x16\x02\x16T\x16\
+    T&T\x00\x00&\xa8\x01\x1c\x15\x0c\x19%\x00\x06\x19\x18\x12_hoodi\
+    e_record_key\x15\x00\x16\x02\x16,\x16,&\xa8\x01\x00\
+    \x00&\xd4\x01\x1c\x15\x0c\x19%\x00\x06\x19\x18\x16_hoodie_pa\
+    rtition_path\x15\x00\x16\x02\x16>\x16>&\xd4\x01\x00\
+    \x00&\x92\x02\x1c\x15\x0c\x19%\x00\x06\x19\x18\x11_hoodie_fi\
+    le_name\x15\x00\x16\x02\x16\xb6\x01\x16\xb6\x01&\x92\x02\x00\x00&\xc8\
+    \x03\x1c\x15\x04\x19%\x00\x06\x19\x18\x01a\x15\x00\x16\x02\x162\x162&\xc8\x03\x00\
+    \x00\x16\xf2\x03\x16\x02\x00(\x03mdt\x00\xb0\x01\x00\x00PAR1";
 
 // The objects of a commit of one file, in the order in which they are made.
 const OBJECTS: [(&str, &[u8]); 7] = [
@@ -73,7 +105,7 @@ const OBJECTS: [(&str, &[u8]); 7] = [
     ),
     (
         "2024-01-01/11111111-1111-4111-8111-111111111111_0-0-0_20250101000000000.parquet",
-        b"hello",
+        ONE_ROW,
     ),
     (
         ".hoodie/metadata/.hoodie/20250101000000000.deltacommit.inflight",
@@ -89,13 +121,13 @@ const OBJECTS: [(&str, &[u8]); 7] = [
     ),
     (
         ".hoodie/20250101000000000.commit",
-        b"{\"partitionToWriteStats\":{\"2024-01-01\":[{\"fileId\":\"11111111-1111-4111-8111-111111111111\",\"fileSizeInBytes\":5,\"numWrites\":0,\"path\":\"2024-01-01/11111111-1111-4111-8111-111111111111_0-0-0_20250101000000000.parquet\",\"prevCommit\":\"null\"}]}}",
+        b"{\"partitionToWriteStats\":{\"2024-01-01\":[{\"fileId\":\"11111111-1111-4111-8111-111111111111\",\"fileSizeInBytes\":693,\"numWrites\":1,\"path\":\"2024-01-01/11111111-1111-4111-8111-111111111111_0-0-0_20250101000000000.parquet\",\"prevCommit\":\"null\"}]}}",
     ),
 ];
 
-fn config(alloc: Global) -> Result<Props, Fail> {
+fn config(alloc: Global, schema: &str) -> Result<Props, Fail> {
     let available = Listed::from_vec(vec![in alloc; Part::Files]?);
-    let Ok(schema) = Schema::parse(alloc, "a:int64") else {
+    let Ok(schema) = Schema::parse(alloc, schema) else {
         return Err(Fail::new("the schema is one"));
     };
     match Props::new(available, None, schema) {
@@ -108,25 +140,51 @@ fn config(alloc: Global) -> Result<Props, Fail> {
 fn table(alloc: Global, last: u64, failing: u64) -> Result<World<Quiet, Brand>, Fail>
     ensures { IfOk result (λ table. table.doubt ≡ None) }
 {
+    table_of(alloc, "a:int64", last, failing)
+}
+
+// The same of a schema.
+fn table_of(
+    alloc: Global,
+    schema: &str,
+    last: u64,
+    failing: u64,
+) -> Result<World<Quiet, Brand>, Fail>
+    ensures { IfOk result (λ table. table.doubt ≡ None) }
+{
     let mut inner = MemStore::empty(alloc);
     inner.fail(failing, false)?;
-    let mirror = Mirror::of(alloc, config(alloc)?, &[], &[])?;
+    let mirror = Mirror::of(alloc, config(alloc, schema)?, &[], &[])?;
     match Instant::new(last) {
         Some(last) => Ok(World::over(Quiet { inner }, mirror, last, 0)),
         None => Err(Fail::new("the last instant is one")),
     }
 }
 
-fn file(alloc: Global, id: &str) -> Result<FileText, Fail> {
-    Ok(FileText {
+// A row of a key and a number.
+fn row(alloc: Global, key: &str, number: i64) -> Result<Row, AllocError> {
+    let mut row = Listed::new(alloc);
+    row.push(RowValue::Text(Text::from_str(alloc, key)?))?;
+    row.push(RowValue::Whole(number))?;
+    Ok(row)
+}
+
+fn file_with(alloc: Global, id: &str, rows: Listed<Row>) -> Result<FileRows, Fail> {
+    Ok(FileRows {
         file: FileId::parse(id)?,
         partition: Partition::parse(alloc, "2024-01-01")?,
-        text: Text::from_str(alloc, "hello")?,
+        rows,
     })
 }
 
+fn file(alloc: Global, id: &str) -> Result<FileRows, Fail> {
+    let mut rows = Listed::new(alloc);
+    rows.push(row(alloc, "a", 1)?)?;
+    file_with(alloc, id, rows)
+}
+
 // So many files of the partition, each of a group of its own.
-fn files(alloc: Global, count: u32) -> Result<Vec<FileText>, Fail> {
+fn files(alloc: Global, count: u32) -> Result<Vec<FileRows>, Fail> {
     let mut files = Vec::new(alloc);
     for number in 0..count {
         let id = format!(in alloc; "{number:08}-1111-4111-8111-111111111111")?;
@@ -139,14 +197,23 @@ fn files(alloc: Global, count: u32) -> Result<Vec<FileText>, Fail> {
 fn committed(
     alloc: Global,
     table: &mut World<Quiet, Brand>,
-    files: &[FileText],
+    files: &[FileRows],
 ) -> Result<&'static str, Fail>
     requires sure { table.old.doubt ≡ None }
 {
     Ok(match commit(alloc, table, files) {
         Ok(_) => "committed",
+        Err(
+            CommitError::TooMany {
+                what: Limit::Rows,
+                ..
+            },
+        ) => "too many rows",
         Err(CommitError::TooMany { .. }) => "too many",
         Err(CommitError::DuplicateGroup { .. }) => "double",
+        Err(CommitError::BadRow { .. }) => "bad row",
+        Err(CommitError::DuplicateRow { .. }) => "double row",
+        Err(CommitError::TooLarge { .. }) => "too large",
         Err(CommitError::InstantsUsedUp) => "used up",
         Err(
             CommitError::Stopped {
@@ -172,7 +239,7 @@ fn stands(
     }
 }
 
-fn one_file(alloc: Global) -> Result<Vec<FileText>, Fail> {
+fn one_file(alloc: Global) -> Result<Vec<FileRows>, Fail> {
     let mut files = Vec::new(alloc);
     files.push(file(alloc, "11111111-1111-4111-8111-111111111111")?)?;
     Ok(files)
@@ -267,7 +334,7 @@ fn crowded(
 ) -> Result<(&'static str, u64), Fail> {
     let commits = [listing(alloc, live)?];
     let paths = requests(alloc, instants)?;
-    let mirror = Mirror::of(alloc, config(alloc)?, paths.as_slice(), &commits)?;
+    let mirror = Mirror::of(alloc, config(alloc, "a:int64")?, paths.as_slice(), &commits)?;
     let inner = MemStore::empty(alloc);
     let Some(last) = Instant::new(MOMENT) else {
         return Err(Fail::new("the last instant is one"));
@@ -305,5 +372,97 @@ fn no_commit_is_made_behind_the_greatest_instant(rt: HostRuntime) -> Result<(), 
     let alloc = rt.alloc();
     assert_eq!(rt; made(alloc, 1, 99_999_999_999_999_999)?, ("used up", 0));
     assert_eq!(rt; made(alloc, 17, 99_999_999_999_999_999)?, ("too many", 0));
+    Ok(())
+}
+
+// A row of a key and a text.
+fn text_row(alloc: Global, key: &str, text: &str) -> Result<Row, AllocError> {
+    let mut row = Listed::new(alloc);
+    row.push(RowValue::Text(Text::from_str(alloc, key)?))?;
+    row.push(RowValue::Text(Text::from_str(alloc, text)?))?;
+    Ok(row)
+}
+
+// A file of so many rows of 4,096 bytes of text.
+fn long_texts(alloc: Global, id: &str, count: u64) -> Result<FileRows, Fail> {
+    let text = "t".repeat(alloc, 4096)?;
+    let mut rows = Listed::new(alloc);
+    for number in 0..count {
+        let key = format!(in alloc; "{number}")?;
+        rows.push(text_row(alloc, key.as_str(), text.as_str())?)?;
+    }
+    file_with(alloc, id, rows)
+}
+
+// A file of so many rows without a cell, all of one key.
+fn short_rows(alloc: Global, id: &str, count: u64) -> Result<FileRows, Fail> {
+    let mut rows = Listed::new(alloc);
+    for _ in 0..count {
+        let mut short = Listed::new(alloc);
+        short.push(RowValue::Text(Text::from_str(alloc, "a")?))?;
+        rows.push(short)?;
+    }
+    file_with(alloc, id, rows)
+}
+
+// A file of two rows of one key.
+fn twins(alloc: Global, id: &str) -> Result<FileRows, Fail> {
+    let mut rows = Listed::new(alloc);
+    rows.push(text_row(alloc, "a", "")?)?;
+    rows.push(text_row(alloc, "a", "b")?)?;
+    file_with(alloc, id, rows)
+}
+
+const FIRST: &str = "00000001-1111-4111-8111-111111111111";
+
+const SECOND: &str = "00000002-1111-4111-8111-111111111111";
+
+// Two files that are refused, by what is looked for before all else that is wrong with them.
+fn refused_files(alloc: Global, case: u32) -> Result<(&'static str, FileRows, FileRows), Fail> {
+    Ok(match case {
+        0 => (
+            "too many rows",
+            short_rows(alloc, FIRST, 1)?,
+            short_rows(alloc, FIRST, 16_385)?,
+        ),
+        1 => ("double", short_rows(alloc, FIRST, 1)?, twins(alloc, FIRST)?),
+        2 => (
+            "bad row",
+            twins(alloc, FIRST)?,
+            short_rows(alloc, SECOND, 1)?,
+        ),
+        3 => (
+            "double row",
+            long_texts(alloc, FIRST, 1030)?,
+            twins(alloc, SECOND)?,
+        ),
+        _ => (
+            "too large",
+            long_texts(alloc, FIRST, 1)?,
+            long_texts(alloc, SECOND, 1030)?,
+        ),
+    })
+}
+
+// The wanted word of a case, that of the commit behind the last instant, and the number of changes.
+fn refused(alloc: Global, case: u32, last: u64) -> Result<(&'static str, &'static str, u64), Fail> {
+    let (wanted, first, second) = refused_files(alloc, case)?;
+    let files = vec![in alloc; first, second]?;
+    let mut table = table_of(alloc, "s:string", last, 100)?;
+    let said = committed(alloc, &mut table, files.as_slice())?;
+    Ok((wanted, said, table.seq()))
+}
+
+#[test]
+fn rows_are_refused_in_the_order_of_the_refusals_and_before_the_last_instant(
+    rt: HostRuntime,
+) -> Result<(), Fail> {
+    for case in 0..5_u32 {
+        for last in [MOMENT, 99_999_999_999_999_999] {
+            let (wanted, said, changes) = refused(rt.alloc(), case, last)?;
+            assert_eq!(rt; said, wanted);
+            assert_eq!(rt; changes, 0);
+        }
+    }
     Ok(())
 }

@@ -54,7 +54,7 @@ fn filled<N: Named>(
 fn commit<N: Named>(alloc: Global, table: &mut World<MemStore, N>, number: u32) -> io::Result<()> {
     let group = number % 1000;
     let line = format!(in alloc;
-        "{{\"ask\":\"commit\",\"files\":[{{\"file\":\"11111111-1111-4111-8111-{group:012}\",\"partition\":\"p\",\"text\":\"hello\"}}]}}"
+        "{{\"ask\":\"commit\",\"files\":[{{\"file\":\"11111111-1111-4111-8111-{group:012}\",\"partition\":\"p\",\"rows\":[[\"a\",1]]}}]}}"
     )?;
     let Ok(ask) = ask_of(alloc, line.as_bytes()) else {
         return Err(refused());

@@ -1,20 +1,20 @@
 use Rattle.std.proofs.Common.{rules, ap, ◌∙◌, ◌∷◌, [], ◌++◌}
 use Rattle.std.proofs.lemmas.List.Elements.{All-push, All-same}
 use Rattle.serde_json.specs.View.{view}
-use Rattle.mx_ask.specs.Asks.{IsFileText}
-use Rattle.mx_ask.proofs.AskLemmas.{file_at, files_more}
+use Rattle.mx_ask.specs.Asks.{file_data, IsFileRows}
+use Rattle.mx_ask.proofs.ItemLemmas.{item_at, items_more}
 use Rattle.mx_ask.proofs.reading.files_in.Goals as goal
 
 pub loop-item-preserved : goal.loop-item-preserved
 loop-item-preserved c = (
-  files_more c.args.items.now c.loop-item.files c.push.new.self c.in_ok-file_in.field-0 c.item-item.result c.loop-item.item-index
+  items_more file_data c.args.items.now c.loop-item.files c.push.new.self c.in_ok-file_in.field-0 c.item-item.result c.loop-item.item-index
       c.loop-item.invariant.0 c.in_ok-file_in.ensures.ok.0 c.in_ok-push.ensures.ok c.loop-item-test.true c.item-item.is,
-  All-same IsFileText c.push.new.self (c.loop-item.files ++ c.in_ok-file_in.field-0 ∷ []) c.in_ok-push.ensures.ok
-      (All-push IsFileText c.loop-item.files c.in_ok-file_in.field-0 c.loop-item.invariant.1 c.in_ok-file_in.ensures.ok.1),
+  All-same IsFileRows c.push.new.self (c.loop-item.files ++ c.in_ok-file_in.field-0 ∷ []) c.in_ok-push.ensures.ok
+      (All-push IsFileRows c.loop-item.files c.in_ok-file_in.field-0 c.loop-item.invariant.1 c.in_ok-file_in.ensures.ok.1),
 )
 
 pub returns-in_err-file_in-clause-not_an_ask : goal.returns-in_err-file_in-clause-not_an_ask
 returns-in_err-file_in-clause-not_an_ask c =
     λ refused files named e.
-    let one = file_at c.args.items.now files c.loop-item.item-index c.item-item.result e named c.loop-item-test.true in
+    let one = item_at file_data IsFileRows c.args.items.now files c.loop-item.item-index c.item-item.result e named c.loop-item-test.true in
     c.in_err-file_in.ensures.not_an_ask (search rules) one.0 one.1 (ap view c.item-item.is ∙ one.2)

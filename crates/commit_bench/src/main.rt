@@ -5,6 +5,7 @@
 //! of the schema. It prints the rounds and how many of them were as they should be.
 #![tactic(auto)]
 
+mod objects;
 mod table;
 
 use crate::table::committed;

@@ -1,12 +1,13 @@
-ghost use Rattle.std.specs.Prelude.{◌≡◌, ◌<◌, Some};
+ghost use Rattle.std.specs.Prelude.{◌≡◌, ◌<◌, None};
 
+use crate::objects::Objects;
 use mx_ask::{Reply, ask_of};
 use mx_base::Instant;
 use mx_hub::drive;
 use mx_open::init;
 use mx_recovery::open_world;
 use mx_schema::Schema;
-use mx_store::{MemStore, Named};
+use mx_store::Named;
 use mx_world::World;
 use std::alloc::Global;
 use std::io;
@@ -19,7 +20,7 @@ pub(crate) fn committed(
     line: &[u8],
     rounds: u32,
 ) -> io::Result<u32> {
-    let mut store = MemStore::empty(alloc);
+    let mut store = Objects::empty(alloc);
     if init(alloc, &mut store, schema).is_err() {
         return Err(refused());
     }
@@ -28,16 +29,16 @@ pub(crate) fn committed(
 
 fn filled<N: Named>(
     alloc: Global,
-    store: MemStore,
+    store: Objects,
     now: Instant,
     line: &[u8],
     rounds: u32,
 ) -> io::Result<u32>
-    requires opening { N.opening ≡ Some store.changes }
+    requires opening { N.opening ≡ None }
     requires moment { now ≡ N.moment }
     requires some { 0 < now }
 {
-    let Ok(table) = open_world::<MemStore, N>(alloc, store, now) else {
+    let Ok(table) = open_world::<Objects, N>(alloc, store, now) else {
         return Err(refused());
     };
     let mut table = table;
@@ -52,7 +53,7 @@ fn filled<N: Named>(
 
 fn commits<N: Named>(
     alloc: Global,
-    table: &mut World<MemStore, N>,
+    table: &mut World<Objects, N>,
     number: u32,
     line: &[u8],
 ) -> bool {

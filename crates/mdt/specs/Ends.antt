@@ -1,8 +1,10 @@
 -- How the program ends.
-use Rattle.std.specs.Prelude.{◌≡◌, ◌⊎◌, ◌++◌, ℕ, List, [], codes, decimal, Option, Some, None, IfSome, OnOk, Result, Ok, Err}
+use Rattle.std.specs.Prelude.{◌≡◌, ◌≢◌, ◌⊎◌, ◌++◌, ◌<◌, ◌^◌, ℕ, String, List, [], length, take, codes, decimal, Option, Some, None, IfSome, OnOk, Result, Ok, Err}
 use Rattle.mx_schema.specs.declared.column.Column.{Column}
 use Rattle.mx_store.specs.declared.change.Change.{Change}
 use Rattle.mx_store.specs.Objects.{objects_of}
+use Rattle.mx_store.specs.Streams.{added}
+use Rattle.mx_lines.specs.Lines.{lines_of}
 use Rattle.mx_world.specs.State.{Standing}
 use Rattle.mx_open.specs.Init.{Inits, IsNewTable}
 use Rattle.mx_open.specs.declared.error.InitError.{InitError}
@@ -10,10 +12,13 @@ use Rattle.mx_open.specs.declared.error.InitError.TheVariants as init
 use Rattle.mx_open.specs.declared.error.ReadError.{ReadError}
 use Rattle.mx_open.specs.declared.error.ReadError.TheVariants as read
 use Rattle.mx_recovery.specs.Recovering.{IsOpened, IsOpenedUntold, IsRefused}
-use Rattle.mx_hub.specs.History.{IsHistory, Moment}
+use Rattle.mx_hub.specs.History.{IsHistory, Moment, printed_replies}
 use Rattle.mx_hub.specs.declared.answered.Answered.{Answered}
 use Rattle.mx_hub.specs.declared.serving.Ending.{Ending}
 use Rattle.mx_hub.specs.declared.serving.Ending.TheVariants as ending
+use Rattle.mdt.specs.Words.{IsCommand}
+use Rattle.mdt.specs.declared.words.Command.{Command}
+use Rattle.mdt.specs.declared.words.Command.TheVariants.{Init, Serve}
 use Rattle.mdt.specs.declared.status.Status.{Status}
 use Rattle.mdt.specs.declared.status.Status.TheVariants.{Done, NoMemory, Words, SourceFault, SinkFault, StoreFault, NotATable, Damaged, Version, NotEmpty, TooLong}
 
@@ -100,6 +105,28 @@ pub record IsTurnedAway (opening after : Option (List Change)) (status : Status)
 abbrev pub Serves : ℕ → ℕ → Option (List Change) → Option (List ℕ) → Option (List Change) → ℕ → Status → List Answered → Type 0
 Serves now count opening input journal faults status answers =
     HasServed now count opening input journal faults status answers ⊎ IsTurnedAway opening journal status answers
+
+-- the status is that of bad words only where no command has the words; and of no command it is that, or want of memory, and nothing was changed
+abbrev pub TellsWords : {A : Type 0} → List (String A) → Option (List Change) → Option (List Change) → Status → Type 0
+TellsWords words before after status =
+    (status ≡ Words → (asked : Command) → ¬ IsCommand words asked)
+    × (((asked : Command) → ¬ IsCommand words asked) → ((status ≡ Words) ⊎ (status ≡ NoMemory)) × (after ≡ before))
+
+-- of `init` and a schema a table of it was made, or not, with its cause; or memory ran out before anything was changed
+abbrev pub CarriesOutInit : {A : Type 0} → List (String A) → Option (List Change) → Option (List Change) → Status → Type 0
+CarriesOutInit words before after status =
+    (schema : List Column) → IsCommand words (Init schema) → MakesTable schema before after status ⊎ ((status ≡ NoMemory) × (after ≡ before))
+
+-- the input had fewer than 2^40 bytes, each of its lines has an answer, and nothing of it is left
+abbrev pub AnswersEachLine : Option (List ℕ) → Option (List ℕ) → List Answered → Type 0
+AnswersEachLine input left answers =
+    IfSome input (λ (bytes : List ℕ). (length bytes < 2 ^ 40) × (length answers ≡ length (lines_of bytes))) × IfSome left (λ (bytes : List ℕ). bytes ≡ [])
+
+-- the replies of the answers were written, or a front of them where the sink failed
+abbrev pub WritesReplies : Option (List ℕ) → Option (List ℕ) → Status → List Answered → Type 0
+WritesReplies before after status answers =
+    (status ≢ SinkFault → after ≡ added before (printed_replies answers))
+    × (status ≡ SinkFault → (n : ℕ) × (after ≡ added before (take n (printed_replies answers))))
 
 -- ---- what is told of it
 

@@ -1,16 +1,12 @@
-ghost use Rattle.std.specs.Prelude.{◌≡◌, ◌≢◌, ◌⊎◌, ◌<◌, ◌^◌, [], ℕ, List, length, take, IfSome};
-ghost use Rattle.mx_schema.specs.declared.column.Column.{Column};
+ghost use Rattle.std.specs.Prelude.{◌≡◌, ◌≢◌, ◌<◌, ◌^◌, []};
 ghost use Rattle.mx_store.specs.Calls.{Rose};
 ghost use Rattle.mx_store.specs.Journal.{Begins};
-ghost use Rattle.mx_store.specs.Streams.{added};
 ghost use Rattle.mx_lines.specs.Ahead.{CountsBytes};
-ghost use Rattle.mx_lines.specs.Lines.{lines_of};
 ghost use Rattle.mx_world.specs.State.{StaysValid};
-ghost use Rattle.mx_hub.specs.History.{moment, printed_replies};
+ghost use Rattle.mx_hub.specs.History.{moment};
 ghost use Rattle.mdt.specs.Words.{IsCommand};
-ghost use Rattle.mdt.specs.declared.words.Command.{Command as Asked};
-ghost use Rattle.mdt.specs.declared.words.Command.TheVariants.{Init, Serve};
-ghost use Rattle.mdt.specs.Ends.{AnswersLines, IsEarly, MakesTable, Serves};
+ghost use Rattle.mdt.specs.declared.words.Command.TheVariants.{Serve};
+ghost use Rattle.mdt.specs.Ends.{AnswersEachLine, AnswersLines, CarriesOutInit, IsEarly, MakesTable, Serves, TellsWords, WritesReplies};
 
 use crate::status::{Status, ending_status, init_status, read_status};
 use crate::words::{Command, command_of};
@@ -48,14 +44,12 @@ pub fn command<S: Store, I: Source, O: Sink, N: Named>(
     requires opening { N.opening ≡ S.journal store }
     ensures begins { Begins N.opening (S.journal result.store) }
     ensures valid { StaysValid N.opening (S.journal result.store) }
-    ensures words { result.status ≡ Status.Words → (asked : Asked) → ¬ IsCommand words.now asked }
-    ensures no_words { ((asked : Asked) → ¬ IsCommand words.now asked) → ((result.status ≡ Status.Words) ⊎ (result.status ≡ Status.NoMemory)) × (S.journal result.store ≡ N.opening) }
-    ensures init { (schema : List Column) → IsCommand words.now (Init schema) → MakesTable schema N.opening (S.journal result.store) result.status ⊎ ((result.status ≡ Status.NoMemory) × (S.journal result.store ≡ N.opening)) }
+    ensures words { TellsWords words.now N.opening (S.journal result.store) result.status }
+    ensures init { CarriesOutInit words.now N.opening (S.journal result.store) result.status }
     ensures serves { IsCommand words.now Serve → Serves N.moment N.count N.opening (I.left source.old) (S.journal result.store) (S.faults result.store) result.status result.answers }
     ensures early { IsEarly result.status → (I.left source.new ≡ I.left source.old) × (result.answers ≡ []) }
-    ensures to_end { IsCommand words.now Serve → result.status ≡ Status.Done → IfSome (I.left source.old) (λ input. (length input < 2 ^ 40) × (length result.answers ≡ length (lines_of input))) × IfSome (I.left source.new) (λ left. left ≡ []) }
-    ensures written { result.status ≢ Status.SinkFault → O.written sink.new ≡ added (O.written sink.old) (printed_replies result.answers) }
-    ensures written_part { result.status ≡ Status.SinkFault → (n : ℕ) × (O.written sink.new ≡ added (O.written sink.old) (take n (printed_replies result.answers))) }
+    ensures to_end { IsCommand words.now Serve → result.status ≡ Status.Done → AnswersEachLine (I.left source.old) (I.left source.new) result.answers }
+    ensures written { WritesReplies (O.written sink.old) (O.written sink.new) result.status result.answers }
     ensures too_long { result.status ≡ Status.TooLong → CountsBytes 0 (I.left source.old) (2 ^ 40) (I.left source.new) }
     ensures source_fault { result.status ≡ Status.SourceFault → Rose (I.faults source.old) (I.faults source.new) }
     ensures sink_fault { result.status ≡ Status.SinkFault → Rose (O.faults sink.old) (O.faults sink.new) }
@@ -111,9 +105,8 @@ fn serve_table<S: Store, I: Source, O: Sink, N: Named>(
     ensures valid { StaysValid N.opening (S.journal result.store) }
     ensures serves { Serves N.moment N.count N.opening (I.left source.old) (S.journal result.store) (S.faults result.store) result.status result.answers }
     ensures early { IsEarly result.status → (I.left source.new ≡ I.left source.old) × (result.answers ≡ []) }
-    ensures to_end { result.status ≡ Status.Done → IfSome (I.left source.old) (λ input. (length input < 2 ^ 40) × (length result.answers ≡ length (lines_of input))) × IfSome (I.left source.new) (λ left. left ≡ []) }
-    ensures written { result.status ≢ Status.SinkFault → O.written sink.new ≡ added (O.written sink.old) (printed_replies result.answers) }
-    ensures written_part { result.status ≡ Status.SinkFault → (n : ℕ) × (O.written sink.new ≡ added (O.written sink.old) (take n (printed_replies result.answers))) }
+    ensures to_end { result.status ≡ Status.Done → AnswersEachLine (I.left source.old) (I.left source.new) result.answers }
+    ensures written { WritesReplies (O.written sink.old) (O.written sink.new) result.status result.answers }
     ensures too_long { result.status ≡ Status.TooLong → CountsBytes 0 (I.left source.old) (2 ^ 40) (I.left source.new) }
     ensures source_fault { result.status ≡ Status.SourceFault → Rose (I.faults source.old) (I.faults source.new) }
     ensures sink_fault { result.status ≡ Status.SinkFault → Rose (O.faults sink.old) (O.faults sink.new) }
@@ -137,9 +130,8 @@ fn serve_opened<S: Store, I: Source, O: Sink, N: Named>(
     ensures begins { Begins N.opening (S.journal result.store) }
     ensures valid { StaysValid N.opening (S.journal result.store) }
     ensures answers { AnswersLines N.opening (moment S.journal S.faults table) (I.left source.old) (S.journal result.store) (S.faults result.store) result.status result.answers }
-    ensures to_end { result.status ≡ Status.Done → IfSome (I.left source.old) (λ input. (length input < 2 ^ 40) × (length result.answers ≡ length (lines_of input))) × IfSome (I.left source.new) (λ left. left ≡ []) }
-    ensures written { result.status ≢ Status.SinkFault → O.written sink.new ≡ added (O.written sink.old) (printed_replies result.answers) }
-    ensures written_part { result.status ≡ Status.SinkFault → (n : ℕ) × (O.written sink.new ≡ added (O.written sink.old) (take n (printed_replies result.answers))) }
+    ensures to_end { result.status ≡ Status.Done → AnswersEachLine (I.left source.old) (I.left source.new) result.answers }
+    ensures written { WritesReplies (O.written sink.old) (O.written sink.new) result.status result.answers }
     ensures too_long { result.status ≡ Status.TooLong → CountsBytes 0 (I.left source.old) (2 ^ 40) (I.left source.new) }
     ensures source_fault { result.status ≡ Status.SourceFault → Rose (I.faults source.old) (I.faults source.new) }
     ensures sink_fault { result.status ≡ Status.SinkFault → Rose (O.faults sink.old) (O.faults sink.new) }

@@ -14,11 +14,15 @@ ghost use Rattle.mdt.specs.Ends.{exit_code, message};
 
 mod command;
 #[cfg(test)]
+mod fault_tests;
+#[cfg(test)]
 mod row_tests;
 mod standard;
 mod status;
 #[cfg(test)]
 mod tests;
+#[cfg(test)]
+mod word_tests;
 mod words;
 
 use crate::command::Ended;

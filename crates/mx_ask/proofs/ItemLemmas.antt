@@ -1,6 +1,6 @@
 -- Arrays of JSON, whose items are of one kind.
-use Rattle.std.proofs.Common.{◌≡◌, ℕ, zero, suc, ◌<◌, ◌+◌, List, [], ◌∷◌, ◌++◌, length, take, get_or, map, All, refl, sym, ap, ◌∙◌, arith}
-use Rattle.std.proofs.lemmas.List.{take_more, map_push}
+use Rattle.std.proofs.Common.{◌≡◌, ℕ, zero, suc, ◌<◌, List, [], ◌∷◌, ◌++◌, length, get_or, map, All, refl, sym, ap, ◌∙◌, arith}
+use Rattle.std.proofs.lemmas.List.{map_push}
 use Rattle.std.proofs.lemmas.List.Elements.{All-head, All-tail}
 use Rattle.serde_json.specs.Data.{Data}
 use Rattle.serde_json.specs.View.{view, items_of, items_view}
@@ -19,11 +19,10 @@ module _ {T : Type 0} (shown : T → Data) where
       cc
 
   -- one item more
-  pub items_more : (values : List Value) (xs new : List T) (x : T) (v : Value) (i : ℕ) → map view (take i values) ≡ map shown xs → view v ≡ shown x → new ≡ xs ++ x ∷ [] → i < length values → v ≡ get_or values i v → map view (take (i + 1) values) ≡ map shown new
-  items_more values xs new x v i so_far reads pushed within is =
-      ap (map view) (take_more values i v within ∙ ap (λ (w : Value). take i values ++ w ∷ []) (sym is))
-      ∙ map_push view (take i values) v
-      ∙ ap (λ (d : Data). map view (take i values) ++ d ∷ []) reads
+  pub items_more : (values : List Value) (xs new : List T) (x : T) (v : Value) → map view values ≡ map shown xs → view v ≡ shown x → new ≡ xs ++ x ∷ [] → map view (values ++ v ∷ []) ≡ map shown new
+  items_more values xs new x v so_far reads pushed =
+      map_push view values v
+      ∙ ap (λ (d : Data). map view values ++ d ∷ []) reads
       ∙ ap (λ (ds : List Data). ds ++ shown x ∷ []) so_far
       ∙ sym (map_push shown xs x)
       ∙ ap (map shown) (sym pushed)

@@ -37,11 +37,6 @@ session_behind (Some at) session v xs rest is e =
     let same : rest ≡ xs = cc in
     subst (IsSession session) same is
 
--- without `at` in front, all members tell the session
-pub session_in_front : (at : Option ℕ) (session : ℕ) (xs rest : Members) → IsWithoutAt xs → IsSession session rest → xs ≡ with_at at rest → IsSession session xs
-session_in_front None session xs rest without is e = subst (IsSession session) (sym e) is
-session_in_front (Some at) session xs rest without is e = absurd (without (string (instant_text at)) rest e)
-
 instant_text-injective : (a b : ℕ) → a < 10 ^ 17 → b < 10 ^ 17 → instant_text a ≡ instant_text b → a ≡ b
 instant_text-injective a b small_a small_b e = sym (number_of-instant_text a small_a) ∙ ap number_of e ∙ number_of-instant_text b small_b
 

@@ -19,6 +19,9 @@ mod printing;
 #[cfg(test)]
 mod printing_tests;
 mod reading;
+mod refusals;
+#[cfg(test)]
+mod refused_tests;
 mod reply;
 mod rows;
 #[cfg(test)]

@@ -3,7 +3,7 @@ ghost use Rattle.serde_json.specs.Data.{Data, Members, string, object, no_member
 ghost use Rattle.serde_json.specs.View.{view, members_view};
 
 use serde_json::Value;
-use std::collections::btree_map::Iter;
+use std::collections::btree_map::IntoIter;
 
 /// The text that a value is.
 pub fn text_in(value: &Value) -> Option<&str>
@@ -13,17 +13,20 @@ pub fn text_in(value: &Value) -> Option<&str>
 }
 
 /// The values of an object that has these three names and no other, in this order.
-pub fn three_members<'a>(
-    value: &'a Value,
+pub fn three_members(
+    value: Value,
     first: &str,
     second: &str,
     third: &str,
-) -> Option<(&'a Value, &'a Value, &'a Value)>
+) -> Option<(Value, Value, Value)>
     ensures { MatchOption result
-        ((a b d : Data) → view value.now ≢ object (member first.now a (member second.now b (member third.now d no_members))))
-        (λ p. view value.now ≡ object (member first.now (view p.0.now) (member second.now (view p.1.now) (member third.now (view p.2.now) no_members)))) }
+        ((a b d : Data) → view value ≢ object (member first.now a (member second.now b (member third.now d no_members))))
+        (λ p. view value ≡ object (member first.now (view p.0) (member second.now (view p.1) (member third.now (view p.2) no_members)))) }
 {
-    let mut members = value.as_object()?.iter();
+    let Value::Object(members) = value else {
+        return None;
+    };
+    let mut members = members.into_iter();
     let a = next_member(&mut members, first)?;
     let b = next_member(&mut members, second)?;
     let c = next_member(&mut members, third)?;
@@ -34,10 +37,10 @@ pub fn three_members<'a>(
 }
 
 /// The value of the next member, where it has this name.
-pub fn next_member<'a>(members: &mut Iter<'a, String, Value>, name: &str) -> Option<&'a Value>
+pub fn next_member(members: &mut IntoIter<String, Value>, name: &str) -> Option<Value>
     ensures { MatchOption result
         ((d : Data) (rest : Members) → members_view members.old ≢ member name.now d rest)
-        (λ v. members_view members.old ≡ member name.now (view v.now) (members_view members.new)) }
+        (λ v. members_view members.old ≡ member name.now (view v) (members_view members.new)) }
 {
     let (found, value) = members.next()?;
     if found.as_str() == name {

@@ -8,16 +8,16 @@ use crate::fields::{instant_in, session_in};
 use crate::members::next_member;
 use mx_base::Instant;
 use serde_json::Value;
-use std::collections::btree_map::Iter;
+use std::collections::btree_map::IntoIter;
 
 /// The list of files and the session of a commit.
-pub fn commit_parts(value: &Value) -> Option<(&Value, u32)>
-    requires { get (codes "ask") (view value.now) ≡ Some (string (codes "commit")) }
+pub fn commit_parts(value: Value) -> Option<(Value, u32)>
+    requires { get (codes "ask") (view value) ≡ Some (string (codes "commit")) }
     ensures { MatchOption result
         ((files : Data) (session : ℕ) (rest : Members) → IsSessionNumber session → IsSession session rest
-        → view value.now ≢ commit_object files rest)
+        → view value ≢ commit_object files rest)
         (λ p. IsSessionNumber p.1
-        × (rest : Members) × IsSession p.1 rest × (view value.now ≡ commit_object (view p.0.now) rest)) }
+        × (rest : Members) × IsSession p.1 rest × (view value ≡ commit_object (view p.0) rest)) }
 {
     let mut members = members_behind_ask(value)?;
     let files = next_member(&mut members, "files")?;
@@ -26,19 +26,19 @@ pub fn commit_parts(value: &Value) -> Option<(&Value, u32)>
 }
 
 /// The instant, the partition and the session of a look at the files of a partition.
-pub fn files_parts(value: &Value) -> Option<(Option<Instant>, &Value, u32)>
-    requires { get (codes "ask") (view value.now) ≡ Some (string (codes "files")) }
+pub fn files_parts(value: Value) -> Option<(Option<Instant>, Value, u32)>
+    requires { get (codes "ask") (view value) ≡ Some (string (codes "files")) }
     ensures { MatchOption result
         ((at : Option ℕ) (partition : Data) (session : ℕ) (rest : Members) → IsMoment at → IsSessionNumber session
-        → IsSession session rest → view value.now ≢ files_object at partition rest)
+        → IsSession session rest → view value ≢ files_object at partition rest)
         (λ p. IsMoment p.0 × IsSessionNumber p.2
-        × (rest : Members) × IsSession p.2 rest × (view value.now ≡ files_object p.0 (view p.1.now) rest)) }
+        × (rest : Members) × IsSession p.2 rest × (view value ≡ files_object p.0 (view p.1) rest)) }
 {
     let mut members = members_behind_ask(value)?;
     let (name, second) = members.next()?;
     match name.as_str() {
         "at" => {
-            let at = instant_in(second)?;
+            let at = instant_in(&second)?;
             let partition = next_member(&mut members, "partition")?;
             Some((Some(at), partition, session_member(&mut members)?))
         }
@@ -48,34 +48,41 @@ pub fn files_parts(value: &Value) -> Option<(Option<Instant>, &Value, u32)>
 }
 
 /// The instant and the session of a look at the partitions.
-pub fn partitions_parts(value: &Value) -> Option<(Option<Instant>, u32)>
-    requires { get (codes "ask") (view value.now) ≡ Some (string (codes "partitions")) }
+pub fn partitions_parts(value: Value) -> Option<(Option<Instant>, u32)>
+    requires { get (codes "ask") (view value) ≡ Some (string (codes "partitions")) }
     ensures { MatchOption result
         ((at : Option ℕ) (session : ℕ) (rest : Members) → IsMoment at → IsSessionNumber session
-        → IsSession session rest → view value.now ≢ partitions_object at rest)
+        → IsSession session rest → view value ≢ partitions_object at rest)
         (λ p. IsMoment p.0 × IsSessionNumber p.1
-        × (rest : Members) × IsSession p.1 rest × (view value.now ≡ partitions_object p.0 rest)) }
+        × (rest : Members) × IsSession p.1 rest × (view value ≡ partitions_object p.0 rest)) }
 {
     let mut members = members_behind_ask(value)?;
-    match next_member(&mut members, "at") {
-        Some(at) => Some((Some(instant_in(at)?), session_member(&mut members)?)),
-        None => Some((None, session_member(&mut members_behind_ask(value)?)?)),
+    let Some((name, second)) = members.next() else {
+        return Some((None, 1));
+    };
+    if name.as_str() == "at" {
+        Some((Some(instant_in(&second)?), session_member(&mut members)?))
+    } else {
+        Some((None, last_session(name.as_str(), &second, &mut members)?))
     }
 }
 
 // The members behind `ask`, which has to be the first.
-fn members_behind_ask(value: &Value) -> Option<Iter<'_, String, Value>>
+fn members_behind_ask(value: Value) -> Option<IntoIter<String, Value>>
     ensures { MatchOption result
-        ((kind : Data) (rest : Members) → view value.now ≢ object (member (codes "ask") kind rest))
-        (λ members. (kind : Data) × (view value.now ≡ object (member (codes "ask") kind (members_view members)))) }
+        ((kind : Data) (rest : Members) → view value ≢ object (member (codes "ask") kind rest))
+        (λ members. (kind : Data) × (view value ≡ object (member (codes "ask") kind (members_view members)))) }
 {
-    let mut members = value.as_object()?.iter();
+    let Value::Object(members) = value else {
+        return None;
+    };
+    let mut members = members.into_iter();
     next_member(&mut members, "ask")?;
     Some(members)
 }
 
 // The session, which ends an object.
-fn session_member(members: &mut Iter<'_, String, Value>) -> Option<u32>
+fn session_member(members: &mut IntoIter<String, Value>) -> Option<u32>
     ensures { MatchOption result
         ((session : ℕ) → IsSessionNumber session → ¬ IsSession session (members_view members.old))
         (λ session. IsSession session (members_view members.old) × IsSessionNumber session) }
@@ -83,7 +90,16 @@ fn session_member(members: &mut Iter<'_, String, Value>) -> Option<u32>
     let Some((name, value)) = members.next() else {
         return Some(1);
     };
-    if name.as_str() == "session" && members.next().is_none() {
+    last_session(name.as_str(), &value, members)
+}
+
+// The session that a member tells, which ends the object.
+fn last_session(name: &str, value: &Value, members: &mut IntoIter<String, Value>) -> Option<u32>
+    ensures { MatchOption result
+        ((session : ℕ) → IsSessionNumber session → ¬ IsSession session (member name.now (view value.now) (members_view members.old)))
+        (λ session. IsSession session (member name.now (view value.now) (members_view members.old)) × IsSessionNumber session) }
+{
+    if name == "session" && members.next().is_none() {
         session_in(value)
     } else {
         None

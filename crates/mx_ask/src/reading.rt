@@ -45,16 +45,16 @@ pub fn ask_of(alloc: Global, line: &[u8]) -> Result<Ask, LineError>
         return Err(LineError::NotAnAsk);
     }
     match read_line(alloc, line) {
-        Ok(json) => ask_in(alloc, &json.value),
+        Ok(json) => ask_in(alloc, json.value),
         Err(TextError::NotJson) => Err(LineError::NotAnAsk),
         Err(TextError::NoMemory) => Err(LineError::NoMemory),
     }
 }
 
-fn ask_in(alloc: Global, value: &Value) -> Result<Ask, LineError>
-    ensures ok { IfOk result (λ ask. IsAskData ask (view value.now) × IsNamed ask) }
+fn ask_in(alloc: Global, value: Value) -> Result<Ask, LineError>
+    ensures ok { IfOk result (λ ask. IsAskData ask (view value) × IsNamed ask) }
     ensures not_an_ask { IsErrOf result LineError.NotAnAsk
-        → (ask : Ask) → IsNamed ask → ¬ IsAskData ask (view value.now) }
+        → (ask : Ask) → IsNamed ask → ¬ IsAskData ask (view value) }
 {
     match value.get("ask").and_then(Value::as_str) {
         Some("commit") => commit_in(alloc, value),
@@ -64,35 +64,35 @@ fn ask_in(alloc: Global, value: &Value) -> Result<Ask, LineError>
     }
 }
 
-fn commit_in(alloc: Global, value: &Value) -> Result<Ask, LineError>
-    requires { get (codes "ask") (view value.now) ≡ Some (string (codes "commit")) }
-    ensures ok { IfOk result (λ ask. IsAskData ask (view value.now) × IsNamed ask) }
+fn commit_in(alloc: Global, value: Value) -> Result<Ask, LineError>
+    requires { get (codes "ask") (view value) ≡ Some (string (codes "commit")) }
+    ensures ok { IfOk result (λ ask. IsAskData ask (view value) × IsNamed ask) }
     ensures not_an_ask { IsErrOf result LineError.NotAnAsk
-        → (ask : Ask) → IsNamed ask → ¬ IsAskData ask (view value.now) }
+        → (ask : Ask) → IsNamed ask → ¬ IsAskData ask (view value) }
 {
     let Some((files, session)) = commit_parts(value) else {
         return Err(LineError::NotAnAsk);
     };
-    let Some(items) = files.as_array() else {
+    let Value::Array(items) = files else {
         return Err(LineError::NotAnAsk);
     };
-    let files = files_in(alloc, items.as_slice())?;
+    let files = files_in(alloc, items)?;
     Ok(Ask {
         session,
         kind: AskKind::Commit { files },
     })
 }
 
-fn partition_files_in(alloc: Global, value: &Value) -> Result<Ask, LineError>
-    requires { get (codes "ask") (view value.now) ≡ Some (string (codes "files")) }
-    ensures ok { IfOk result (λ ask. IsAskData ask (view value.now) × IsNamed ask) }
+fn partition_files_in(alloc: Global, value: Value) -> Result<Ask, LineError>
+    requires { get (codes "ask") (view value) ≡ Some (string (codes "files")) }
+    ensures ok { IfOk result (λ ask. IsAskData ask (view value) × IsNamed ask) }
     ensures not_an_ask { IsErrOf result LineError.NotAnAsk
-        → (ask : Ask) → IsNamed ask → ¬ IsAskData ask (view value.now) }
+        → (ask : Ask) → IsNamed ask → ¬ IsAskData ask (view value) }
 {
     let Some((at, partition, session)) = files_parts(value) else {
         return Err(LineError::NotAnAsk);
     };
-    let partition = partition_in(alloc, partition)?;
+    let partition = partition_in(alloc, &partition)?;
     Ok(Ask {
         session,
         kind: AskKind::LookUp {
@@ -102,11 +102,11 @@ fn partition_files_in(alloc: Global, value: &Value) -> Result<Ask, LineError>
     })
 }
 
-fn partitions_in(value: &Value) -> Result<Ask, LineError>
-    requires { get (codes "ask") (view value.now) ≡ Some (string (codes "partitions")) }
-    ensures ok { IfOk result (λ ask. IsAskData ask (view value.now) × IsNamed ask) }
+fn partitions_in(value: Value) -> Result<Ask, LineError>
+    requires { get (codes "ask") (view value) ≡ Some (string (codes "partitions")) }
+    ensures ok { IfOk result (λ ask. IsAskData ask (view value) × IsNamed ask) }
     ensures not_an_ask { IsErrOf result LineError.NotAnAsk
-        → (ask : Ask) → IsNamed ask → ¬ IsAskData ask (view value.now) }
+        → (ask : Ask) → IsNamed ask → ¬ IsAskData ask (view value) }
 {
     let Some((at, session)) = partitions_parts(value) else {
         return Err(LineError::NotAnAsk);
@@ -120,30 +120,30 @@ fn partitions_in(value: &Value) -> Result<Ask, LineError>
     })
 }
 
-fn files_in(alloc: Global, items: &[Value]) -> Result<Listed<FileRows>, LineError>
-    ensures ok { IfOk result (λ files. (items_view items.now ≡ items_of (map file_data files)) × All IsFileRows files) }
+fn files_in(alloc: Global, items: Vec<Value>) -> Result<Listed<FileRows>, LineError>
+    ensures ok { IfOk result (λ files. (items_view items.items ≡ items_of (map file_data files)) × All IsFileRows files) }
     ensures not_an_ask { IsErrOf result LineError.NotAnAsk
-        → (files : List FileRows) → All IsFileRows files → items_view items.now ≢ items_of (map file_data files) }
+        → (files : List FileRows) → All IsFileRows files → items_view items.items ≢ items_of (map file_data files) }
 {
-    let mut files = Listed::new(alloc);
+    let mut files = Listed::from_vec(Vec::with_capacity(alloc, items.len())?);
     for item in items {
         files.push(file_in(alloc, item)?)?;
     }
     Ok(files)
 }
 
-fn file_in(alloc: Global, value: &Value) -> Result<FileRows, LineError>
-    ensures ok { IfOk result (λ file. (view value.now ≡ file_data file) × IsFileRows file) }
+fn file_in(alloc: Global, value: Value) -> Result<FileRows, LineError>
+    ensures ok { IfOk result (λ file. (view value ≡ file_data file) × IsFileRows file) }
     ensures not_an_ask { IsErrOf result LineError.NotAnAsk
-        → (file : FileRows) → IsFileRows file → view value.now ≢ file_data file }
+        → (file : FileRows) → IsFileRows file → view value ≢ file_data file }
 {
     let Some((file, partition, rows)) = three_members(value, "file", "partition", "rows") else {
         return Err(LineError::NotAnAsk);
     };
-    let Some(file) = file_id_in(file) else {
+    let Some(file) = file_id_in(&file) else {
         return Err(LineError::NotAnAsk);
     };
-    let partition = partition_in(alloc, partition)?;
+    let partition = partition_in(alloc, &partition)?;
     let rows = rows_in(alloc, rows)?;
     Ok(FileRows {
         file,

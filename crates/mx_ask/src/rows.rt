@@ -11,62 +11,62 @@ use serde_json::{Number, Value};
 use std::alloc::Global;
 
 /// The rows that a value is.
-pub(crate) fn rows_in(alloc: Global, value: &Value) -> Result<Listed<Row>, LineError>
-    ensures ok { IfOk result (λ rows. (view value.now ≡ rows_data rows) × All IsRow rows) }
+pub(crate) fn rows_in(alloc: Global, value: Value) -> Result<Listed<Row>, LineError>
+    ensures ok { IfOk result (λ rows. (view value ≡ rows_data rows) × All IsRow rows) }
     ensures not_an_ask { IsErrOf result LineError.NotAnAsk
-        → (rows : List (List AnyValue)) → All IsRow rows → view value.now ≢ rows_data rows }
+        → (rows : List (List AnyValue)) → All IsRow rows → view value ≢ rows_data rows }
 {
-    let Some(items) = value.as_array() else {
+    let Value::Array(items) = value else {
         return Err(LineError::NotAnAsk);
     };
-    each_row(alloc, items.as_slice())
+    each_row(alloc, items)
 }
 
-fn each_row(alloc: Global, items: &[Value]) -> Result<Listed<Row>, LineError>
-    ensures ok { IfOk result (λ rows. (items_view items.now ≡ items_of (map row_data rows)) × All IsRow rows) }
+fn each_row(alloc: Global, items: Vec<Value>) -> Result<Listed<Row>, LineError>
+    ensures ok { IfOk result (λ rows. (items_view items.items ≡ items_of (map row_data rows)) × All IsRow rows) }
     ensures not_an_ask { IsErrOf result LineError.NotAnAsk
-        → (rows : List (List AnyValue)) → All IsRow rows → items_view items.now ≢ items_of (map row_data rows) }
+        → (rows : List (List AnyValue)) → All IsRow rows → items_view items.items ≢ items_of (map row_data rows) }
 {
-    let mut rows = Listed::new(alloc);
+    let mut rows = Listed::from_vec(Vec::with_capacity(alloc, items.len())?);
     for item in items {
         rows.push(row_in(alloc, item)?)?;
     }
     Ok(rows)
 }
 
-fn row_in(alloc: Global, value: &Value) -> Result<Row, LineError>
-    ensures ok { IfOk result (λ row. (view value.now ≡ row_data row) × IsRow row) }
+fn row_in(alloc: Global, value: Value) -> Result<Row, LineError>
+    ensures ok { IfOk result (λ row. (view value ≡ row_data row) × IsRow row) }
     ensures not_an_ask { IsErrOf result LineError.NotAnAsk
-        → (row : List AnyValue) → IsRow row → view value.now ≢ row_data row }
+        → (row : List AnyValue) → IsRow row → view value ≢ row_data row }
 {
-    let Some(items) = value.as_array() else {
+    let Value::Array(items) = value else {
         return Err(LineError::NotAnAsk);
     };
-    each_value(alloc, items.as_slice())
+    each_value(alloc, items)
 }
 
-fn each_value(alloc: Global, items: &[Value]) -> Result<Row, LineError>
-    ensures ok { IfOk result (λ row. (items_view items.now ≡ items_of (map value_data row)) × IsRow row) }
+fn each_value(alloc: Global, items: Vec<Value>) -> Result<Row, LineError>
+    ensures ok { IfOk result (λ row. (items_view items.items ≡ items_of (map value_data row)) × IsRow row) }
     ensures not_an_ask { IsErrOf result LineError.NotAnAsk
-        → (row : List AnyValue) → IsRow row → items_view items.now ≢ items_of (map value_data row) }
+        → (row : List AnyValue) → IsRow row → items_view items.items ≢ items_of (map value_data row) }
 {
-    let mut row = Listed::new(alloc);
+    let mut row = Listed::from_vec(Vec::with_capacity(alloc, items.len())?);
     for item in items {
-        row.push(value_in(alloc, item)?)?;
+        row.push(value_in(item)?)?;
     }
     Ok(row)
 }
 
-fn value_in(alloc: Global, value: &Value) -> Result<RowValue, LineError>
-    ensures ok { IfOk result (λ v. (view value.now ≡ value_data v) × IsRowValue v) }
+fn value_in(value: Value) -> Result<RowValue, LineError>
+    ensures ok { IfOk result (λ v. (view value ≡ value_data v) × IsRowValue v) }
     ensures not_an_ask { IsErrOf result LineError.NotAnAsk
-        → (v : AnyValue) → IsRowValue v → view value.now ≢ value_data v }
+        → (v : AnyValue) → IsRowValue v → view value ≢ value_data v }
 {
     match value {
         Value::Null => Ok(RowValue::Null),
-        Value::Bool(flag) => Ok(RowValue::Flag(*flag)),
-        Value::Number(numeral) => whole_in(numeral),
-        Value::String(text) => Ok(RowValue::Text(Text::from_str(alloc, text.as_str())?)),
+        Value::Bool(flag) => Ok(RowValue::Flag(flag)),
+        Value::Number(numeral) => whole_in(&numeral),
+        Value::String(text) => Ok(RowValue::Text(Text::from_string(text))),
         Value::Array(_) | Value::Object(_) => Err(LineError::NotAnAsk),
     }
 }

@@ -1,5 +1,5 @@
 -- What the path of a data file says.
-use Rattle.std.proofs.Common.{◌≡◌, ◌≢◌, ◌≤◌, ℕ, ◌+◌, ◌^◌, ◌<◌, Bool, true, false, List, [], ◌∷◌, ◌++◌, length, get_or, take, drop, refl, sym, ◌∙◌, ap, subst, arith, length-append, take_at, drop_at, lit<}
+use Rattle.std.proofs.Common.{◌≡◌, ◌≢◌, ℕ, ◌+◌, ◌^◌, ◌<◌, List, ◌∷◌, ◌++◌, length, get_or, take, drop, refl, sym, ◌∙◌, ap, arith, length-append, drop_at, lit<}
 use Rattle.std.specs.Prelude.{codes}
 use Rattle.std.specs.Str.{IsCharBoundary}
 use Rattle.std.proofs.lemmas.List.{append_cancel_left, take-append-drop}
@@ -9,7 +9,7 @@ use Rattle.mx_base.specs.Digits.{instant_text}
 use Rattle.mx_base.specs.Names.{IsFileId}
 use Rattle.mx_base.specs.Paths.{data_path, data_file_name}
 use Rattle.mx_base.proofs.NameLemmas.{length-data_file_name, length-IsFileId}
-use Rattle.mx_base.proofs.ObjectLemmas.{append-split, instant-split, boundary_at}
+use Rattle.mx_base.proofs.ObjectSplits.{append-split, instant-split, boundary_at}
 use Rattle.mx_base.proofs.Places.{length-instant}
 
 pub length-data_path : (partition file : List ℕ) (at : ℕ) → IsFileId file → length (data_path partition file at) ≡ length partition + 69

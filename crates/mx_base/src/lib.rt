@@ -21,6 +21,8 @@ mod grammar;
 mod instant;
 mod named;
 mod object_name;
+#[cfg(test)]
+mod object_tests;
 mod part;
 mod partition;
 mod path;

@@ -118,16 +118,21 @@ fn a_file_id_is_lower_case_with_hyphens(rt: HostRuntime) -> Result<(), Fail> {
     Ok(())
 }
 
+fn is_a_path_where(rt: &impl Abort, alloc: Global, text: &str, is_path: bool) {
+    match Path::parse(alloc, text) {
+        Ok(path) => {
+            assert!(rt; is_path, "{text}");
+            assert_eq!(rt; path.as_str(), text);
+        }
+        Err(error) => {
+            assert_eq!(rt; error, NameError::BadName);
+            assert!(rt; !is_path, "{text}");
+        }
+    }
+}
+
 #[test]
-fn a_path_is_segments_of_1_to_255_bytes_and_at_most_1024_in_all(
-    rt: HostRuntime,
-) -> Result<(), Fail> {
-    let alloc = rt.alloc();
-    let long = "a".repeat(alloc, 255)?;
-    let longer = "a".repeat(alloc, 256)?;
-    let whole = "abc/".repeat(alloc, 255)?;
-    let most = format!(in alloc; "{whole}abcd")?;
-    let more = format!(in alloc; "{whole}abcde")?;
+fn a_path_is_segments_of_letters_digits_and_marks(rt: HostRuntime) {
     let cases = [
         ("", false),
         ("a", true),
@@ -145,22 +150,28 @@ fn a_path_is_segments_of_1_to_255_bytes_and_at_most_1024_in_all(
         ("a b", false),
         ("a\\b", false),
         ("a\u{e9}", false),
+    ];
+    for (text, is_path) in cases {
+        is_a_path_where(&rt, rt.alloc(), text, is_path);
+    }
+}
+
+#[test]
+fn a_segment_has_at_most_255_bytes_and_a_path_1024(rt: HostRuntime) -> Result<(), Fail> {
+    let alloc = rt.alloc();
+    let long = "a".repeat(alloc, 255)?;
+    let longer = "a".repeat(alloc, 256)?;
+    let whole = "abc/".repeat(alloc, 255)?;
+    let most = format!(in alloc; "{whole}abcd")?;
+    let more = format!(in alloc; "{whole}abcde")?;
+    let cases = [
         (long.as_str(), true),
         (longer.as_str(), false),
         (most.as_str(), true),
         (more.as_str(), false),
     ];
     for (text, is_path) in cases {
-        match Path::parse(alloc, text) {
-            Ok(path) => {
-                assert!(rt; is_path, "{text}");
-                assert_eq!(rt; path.as_str(), text);
-            }
-            Err(error) => {
-                assert_eq!(rt; error, NameError::BadName);
-                assert!(rt; !is_path, "{text}");
-            }
-        }
+        is_a_path_where(&rt, alloc, text, is_path);
     }
     Ok(())
 }
@@ -259,307 +270,6 @@ fn the_index_partitions_have_these_names_and_shards(rt: HostRuntime) -> Result<(
                 assert!(rt; Part::Files.is_before(part) == (part != Part::Files));
             }
             Err(BadName) => assert_eq!(rt; expected, None, "{text}"),
-        }
-    }
-    Ok(())
-}
-
-fn stands_at(rt: &impl Abort, alloc: Global, name: &ObjectName, text: &str) -> Result<(), Fail> {
-    let path = name.path(alloc)?;
-    assert_eq!(rt; path.as_str(), text);
-    let found = ObjectName::of(&path).expect(rt, text);
-    assert!(rt; found == *name, "{text}");
-    Ok(())
-}
-
-#[test]
-fn the_objects_of_the_data_timeline_have_these_paths(rt: HostRuntime) -> Result<(), Fail> {
-    let at = Instant::new(20_250_101_000_000_000).expect(&rt, "an instant");
-    let cases = [
-        (
-            ActionKind::Commit,
-            ActionState::Requested,
-            ".hoodie/20250101000000000.commit.requested",
-        ),
-        (
-            ActionKind::Commit,
-            ActionState::Inflight,
-            ".hoodie/20250101000000000.inflight",
-        ),
-        (
-            ActionKind::Commit,
-            ActionState::Completed,
-            ".hoodie/20250101000000000.commit",
-        ),
-        (
-            ActionKind::Clean,
-            ActionState::Requested,
-            ".hoodie/20250101000000000.clean.requested",
-        ),
-        (
-            ActionKind::Clean,
-            ActionState::Inflight,
-            ".hoodie/20250101000000000.clean.inflight",
-        ),
-        (
-            ActionKind::Clean,
-            ActionState::Completed,
-            ".hoodie/20250101000000000.clean",
-        ),
-        (
-            ActionKind::Rollback,
-            ActionState::Requested,
-            ".hoodie/20250101000000000.rollback.requested",
-        ),
-        (
-            ActionKind::Rollback,
-            ActionState::Inflight,
-            ".hoodie/20250101000000000.rollback.inflight",
-        ),
-        (
-            ActionKind::Rollback,
-            ActionState::Completed,
-            ".hoodie/20250101000000000.rollback",
-        ),
-        (
-            ActionKind::Indexing,
-            ActionState::Requested,
-            ".hoodie/20250101000000000.indexing.requested",
-        ),
-        (
-            ActionKind::Indexing,
-            ActionState::Inflight,
-            ".hoodie/20250101000000000.indexing.inflight",
-        ),
-        (
-            ActionKind::Indexing,
-            ActionState::Completed,
-            ".hoodie/20250101000000000.indexing",
-        ),
-    ];
-    for (kind, state, text) in cases {
-        stands_at(
-            &rt,
-            rt.alloc(),
-            &ObjectName::Timeline { at, kind, state },
-            text,
-        )?;
-    }
-    stands_at(
-        &rt,
-        rt.alloc(),
-        &ObjectName::Config,
-        ".hoodie/hoodie.properties",
-    )
-}
-
-#[test]
-fn the_objects_of_the_metadata_timeline_have_these_paths(rt: HostRuntime) -> Result<(), Fail> {
-    let cases = [
-        (
-            1,
-            MetadataActionKind::DeltaCommit,
-            false,
-            ".hoodie/metadata/.hoodie/00000000000000001.deltacommit.inflight",
-        ),
-        (
-            1,
-            MetadataActionKind::DeltaCommit,
-            true,
-            ".hoodie/metadata/.hoodie/00000000000000001.deltacommit",
-        ),
-        (
-            0,
-            MetadataActionKind::Indexing,
-            false,
-            ".hoodie/metadata/.hoodie/00000000000000000010.deltacommit.inflight",
-        ),
-        (
-            0,
-            MetadataActionKind::Indexing,
-            true,
-            ".hoodie/metadata/.hoodie/00000000000000000010.deltacommit",
-        ),
-        (
-            1,
-            MetadataActionKind::Compaction,
-            false,
-            ".hoodie/metadata/.hoodie/00000000000000001001.compaction.inflight",
-        ),
-        (
-            1,
-            MetadataActionKind::Compaction,
-            true,
-            ".hoodie/metadata/.hoodie/00000000000000001001.commit",
-        ),
-        (
-            1,
-            MetadataActionKind::Clean,
-            false,
-            ".hoodie/metadata/.hoodie/00000000000000001002.clean.inflight",
-        ),
-        (
-            0,
-            MetadataActionKind::Clean,
-            true,
-            ".hoodie/metadata/.hoodie/00000000000000000002.clean",
-        ),
-    ];
-    for (number, kind, completed, text) in cases {
-        let at = Instant::new(number).expect(&rt, "an instant");
-        stands_at(
-            &rt,
-            rt.alloc(),
-            &ObjectName::Metadata {
-                at,
-                kind,
-                completed,
-            },
-            text,
-        )?;
-    }
-    Ok(())
-}
-
-#[test]
-fn the_bases_and_logs_have_these_paths(rt: HostRuntime) -> Result<(), Fail> {
-    let alloc = rt.alloc();
-    let at = Instant::new(1).expect(&rt, "an instant");
-    let upto = Instant::new(0).expect(&rt, "an instant");
-    let first = ObjectName::Base {
-        part: Part::Files,
-        shard: 0,
-        upto,
-        kind: BaseKind::Indexing,
-    };
-    stands_at(
-        &rt,
-        alloc,
-        &first,
-        ".hoodie/metadata/files/files-0000_00000000000000000010.hfile",
-    )?;
-    let base = ObjectName::Base {
-        part: Part::ColumnStats,
-        shard: 3,
-        upto: at,
-        kind: BaseKind::Compaction,
-    };
-    stands_at(
-        &rt,
-        alloc,
-        &base,
-        ".hoodie/metadata/column_stats/column_stats-0003_00000000000000001001.hfile",
-    )?;
-    let log = ObjectName::Log {
-        part: Part::BloomFilters,
-        shard: 2,
-        at,
-    };
-    stands_at(
-        &rt,
-        alloc,
-        &log,
-        ".hoodie/metadata/bloom_filters/bloom_filters-0002_00000000000000001.log",
-    )?;
-    let last = ObjectName::Log {
-        part: Part::RecordIndex,
-        shard: 9999,
-        at,
-    };
-    stands_at(
-        &rt,
-        alloc,
-        &last,
-        ".hoodie/metadata/record_index/record_index-9999_00000000000000001.log",
-    )
-}
-
-#[test]
-fn other_paths_are_no_objects(rt: HostRuntime) -> Result<(), Fail> {
-    let alloc = rt.alloc();
-    let cases = [
-        "hoodie.properties",
-        ".hoodie/hoodie.propertie",
-        ".hoodie/00000000000000000.commit",
-        ".hoodie/2025010100000000.commit",
-        ".hoodie/202501010000000000.commit",
-        ".hoodie/20250101000000000.requested",
-        ".hoodie/20250101000000000.commit.inflight",
-        ".hoodie/20250101000000000.deltacommit",
-        ".hoodie/20250101000000000001.commit",
-        ".hoodie/metadata/20250101000000000.commit",
-        ".hoodie/metadata/.hoodie/00000000000000000.deltacommit",
-        ".hoodie/metadata/.hoodie/20250101000000000.commit",
-        ".hoodie/metadata/.hoodie/20250101000000000010.commit",
-        ".hoodie/metadata/files/files-0000_00000000000000000.log",
-        ".hoodie/metadata/files/files-0000_20250101000000000001.log",
-        ".hoodie/metadata/files/files-0000_20250101000000000.hfile",
-        ".hoodie/metadata/files/files-000_20250101000000000.log",
-        ".hoodie/metadata/files/files-00000_20250101000000000.log",
-        ".hoodie/metadata/files/column_stats-0000_20250101000000000.log",
-        ".hoodie/metadata/other/other-0000_20250101000000000.log",
-        "2024-01-01/11111111-1111-4111-8111-111111111111_0-0-0_20250101000000000.parquet",
-    ];
-    for text in cases {
-        let path = Path::parse(alloc, text).ok().expect(&rt, "a path");
-        assert!(rt; ObjectName::of(&path).is_none(), "{text}");
-    }
-    Ok(())
-}
-
-#[test]
-fn a_data_file_stands_in_its_partition(rt: HostRuntime) -> Result<(), Fail> {
-    let alloc = rt.alloc();
-    let cases = [
-        (
-            "p/11111111-1111-4111-8111-111111111111_0-0-0_00000000000000001.parquet",
-            true,
-        ),
-        (
-            "2024-01-01/11111111-1111-4111-8111-111111111111_0-0-0_20250101000000000.parquet",
-            true,
-        ),
-        (
-            "p/11111111-1111-4111-8111-111111111111_0-0-0_00000000000000000.parquet",
-            false,
-        ),
-        (
-            "p/11111111-1111-4111-8111-111111111111_0-0-0_0000000000000001.parquet",
-            false,
-        ),
-        (
-            "p/11111111-1111-4111-8111-11111111111A_0-0-0_00000000000000001.parquet",
-            false,
-        ),
-        (
-            "p/11111111-1111-4111-8111-111111111111_0-0-1_00000000000000001.parquet",
-            false,
-        ),
-        (
-            "p/11111111-1111-4111-8111-111111111111_0-0-0_00000000000000001.avro",
-            false,
-        ),
-        (
-            ".p/11111111-1111-4111-8111-111111111111_0-0-0_00000000000000001.parquet",
-            false,
-        ),
-        (
-            "p/q/11111111-1111-4111-8111-111111111111_0-0-0_00000000000000001.parquet",
-            false,
-        ),
-        (
-            "11111111-1111-4111-8111-111111111111_0-0-0_00000000000000001.parquet",
-            false,
-        ),
-        (".hoodie/00000000000000001.commit", false),
-    ];
-    for (text, is_data_file) in cases {
-        let path = Path::parse(alloc, text).ok().expect(&rt, "a path");
-        let found = DataFile::of(alloc, &path)?;
-        assert_eq!(rt; found.is_some(), is_data_file);
-        if let Some(found) = found {
-            let again = Path::of_data_file(alloc, &found.partition, &found.file, found.at)?;
-            assert_eq!(rt; again.as_str(), text);
         }
     }
     Ok(())

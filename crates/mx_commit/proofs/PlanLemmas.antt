@@ -27,13 +27,12 @@ use Rattle.mx_commit.proofs.EntryLemmas.{both}
 
 -- ---- the data files
 
-pub data_next : (old before after : List Change) (files : List NewFile) (place : ℕ) (file : NewFile) (t : ℕ) (change : Change) → place < length files → file ≡ get_or files place file → before ≡ old ++ data_changes (take place files) t
-    → change ≡ Create (data_file file t) file.bytes → after ≡ before ++ change ∷ [] → after ≡ old ++ data_changes (take (place + 1) files) t
-data_next old before after files place file t change within is so_far made pushed =
+pub data_more : (old before after : List Change) (files : List NewFile) (file : NewFile) (t : ℕ) (change : Change) → before ≡ old ++ data_changes files t → change ≡ Create (data_file file t) file.bytes → after ≡ before ++ change ∷ []
+    → after ≡ old ++ data_changes (files ++ file ∷ []) t
+data_more old before after files file t change so_far made pushed =
     pushed ∙ ap₂ (λ (cs : List Change) (c : Change). cs ++ c ∷ []) so_far made
-    ∙ append_assoc old (data_changes (take place files) t) (Create (data_file file t) file.bytes ∷ [])
-    ∙ ap (λ (cs : List Change). old ++ cs) (sym (map-append (λ (f : NewFile). Create (data_file f t) f.bytes) (take place files) (file ∷ [])))
-    ∙ ap (λ (fs : List NewFile). old ++ data_changes fs t) (ap (λ (f : NewFile). take place files ++ f ∷ []) is ∙ sym (take_more files place file within))
+    ∙ append_assoc old (data_changes files t) (Create (data_file file t) file.bytes ∷ [])
+    ∙ ap (λ (cs : List Change). old ++ cs) (sym (map-append (λ (f : NewFile). Create (data_file f t) f.bytes) files (file ∷ [])))
 
 -- ---- the log
 

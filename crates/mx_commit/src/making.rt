@@ -14,7 +14,7 @@ use crate::NewFile;
 use mx_ask::FileRows;
 use mx_base::{Instant, data_file_name};
 use mx_lists::{Bytes, Listed};
-use mx_parquet::{FullRow, size_rows, write_rows};
+use mx_parquet::{RowView, size_rows, write_rows};
 use mx_rows::{Place, full_rows};
 use mx_schema::Schema;
 use std::alloc::{AllocError, Global};
@@ -71,11 +71,12 @@ fn new_file(
     ensures held { IfOk result (IsFileOf schema.now) }
     ensures size { TellsLength (length (file_bytes schema.now at number file.now)) result }
 {
+    let name = data_file_name(alloc, &file.file, at)?;
     let place = Place {
         at,
         number,
         partition: &file.partition,
-        name: &data_file_name(alloc, &file.file, at)?,
+        name: &name,
     };
     let rows = full_rows(alloc, schema, &place, file.rows.as_slice())?;
     Ok(NewFile {
@@ -87,7 +88,7 @@ fn new_file(
 }
 
 // The one file of the rows, where it is not too large.
-fn bytes_of(alloc: Global, schema: &Schema, rows: &[FullRow]) -> Result<Bytes, MakeError>
+fn bytes_of(alloc: Global, schema: &Schema, rows: &[RowView<'_>]) -> Result<Bytes, MakeError>
     requires count { length rows.now ≤ 16384 }
     requires fit { AllByRecursion (FitsRow schema.now) rows.now }
     requires texts { AllByRecursion HasTexts rows.now }
@@ -101,5 +102,5 @@ fn bytes_of(alloc: Global, schema: &Schema, rows: &[FullRow]) -> Result<Bytes, M
     }
     // The call tells that the schema is one.
     let _columns = schema.columns();
-    Ok(Bytes::from_vec(write_rows(alloc, schema, rows)?))
+    Ok(Bytes::from_vec(write_rows(alloc, schema, rows, bytes)?))
 }

@@ -27,21 +27,23 @@ use std::alloc::{AllocError, Global};
 pub fn plan_commit(
     alloc: Global,
     at: Instant,
-    files: &[NewFile],
+    files: Listed<NewFile>,
     written: &[Written],
 ) -> Result<Vec<Change>, AllocError>
     requires meant { 0 < at }
-    requires apart { AreApartFiles new_group files.now }
-    requires entries { AreWritten files.now at written.now }
-    ensures plan { IfOk result (λ changes. IsPlanOf files.now written.now at changes.items) }
-    ensures names { OnOk result (All IsNamedFile files.now) }
+    requires apart { AreApartFiles new_group files }
+    requires entries { AreWritten files at written.now }
+    ensures plan { IfOk result (λ changes. IsPlanOf files written.now at changes.items) }
+    ensures names { OnOk result (All IsNamedFile files) }
 {
     check_counts(written)?;
     let meta = meta_of(alloc, written)?;
+    let entries = added_entries(alloc, at, files.as_slice())?;
+    let mut logs = Vec::new(alloc);
+    push_logs(alloc, &mut logs, at, files.as_slice(), entries.as_slice())?;
     let mut changes = Vec::new(alloc);
     push_files(alloc, &mut changes, at, files)?;
-    let entries = added_entries(alloc, at, files)?;
-    push_logs(alloc, &mut changes, at, files, entries.as_slice())?;
+    changes.append(&mut logs)?;
     push_completion(alloc, &mut changes, at, &meta)?;
     Ok(changes)
 }
@@ -68,29 +70,29 @@ fn push_files(
     alloc: Global,
     changes: &mut Vec<Change>,
     at: Instant,
-    files: &[NewFile],
+    files: Listed<NewFile>,
 ) -> Result<(), AllocError>
-    ensures changes { OnOk result (changes.new.items ≡ changes.old.items ++ file_changes files.now at) }
-    ensures reads { OnOk result (path_list_of (compact_text (path_list_data (files_planned files.now at))) ≡ Some (files_planned files.now at)) }
-    ensures names { OnOk result (All IsNamedFile files.now) }
+    ensures changes { OnOk result (changes.new.items ≡ changes.old.items ++ file_changes files at) }
+    ensures reads { OnOk result (path_list_of (compact_text (path_list_data (files_planned files at))) ≡ Some (files_planned files at)) }
+    ensures names { OnOk result (All IsNamedFile files) }
 {
     push(changes, mark(alloc, timeline(at, ActionState::Requested))?)?;
-    let planned = planned_text(alloc, at, files)?;
+    let planned = planned_text(alloc, at, files.as_slice())?;
     push(
         changes,
         create(alloc, timeline(at, ActionState::Inflight), planned)?,
     )?;
-    push_data(alloc, changes, at, files)
+    push_data(alloc, changes, at, files.into_vec())
 }
 
 fn push_data(
     alloc: Global,
     changes: &mut Vec<Change>,
     at: Instant,
-    files: &[NewFile],
+    files: Vec<NewFile>,
 ) -> Result<(), AllocError>
-    ensures changes { OnOk result (changes.new.items ≡ changes.old.items ++ data_changes files.now at) }
-    ensures names { OnOk result (All IsNamedFile files.now) }
+    ensures changes { OnOk result (changes.new.items ≡ changes.old.items ++ data_changes files.items at) }
+    ensures names { OnOk result (All IsNamedFile files.items) }
 {
     for file in files {
         push(changes, data_change(alloc, at, file)?)?;
@@ -235,16 +237,19 @@ fn create(alloc: Global, name: ObjectName, bytes: Bytes) -> Result<Change, Alloc
     Ok(Change::Create { path, bytes })
 }
 
-fn data_change(alloc: Global, at: Instant, file: &NewFile) -> Result<Change, AllocError>
-    ensures change { IfOk result (λ change. change ≡ Create (data_file file.now at) file.now.bytes) }
-    ensures names { IsNamedFile file.now }
+// The file's bytes go into the change.
+fn data_change(alloc: Global, at: Instant, file: NewFile) -> Result<Change, AllocError>
+    ensures change { IfOk result (λ change. change ≡ Create (data_file file at) file.bytes) }
+    ensures names { IsNamedFile file }
 {
     // The calls tell that the file's names are such.
     let _partition = file.partition.as_str();
     let _id = file.file.print();
     let path = Path::of_data_file(alloc, &file.partition, &file.file, at)?;
-    let bytes = file.bytes.clone()?;
-    Ok(Change::Create { path, bytes })
+    Ok(Change::Create {
+        path,
+        bytes: file.bytes,
+    })
 }
 
 fn timeline(at: Instant, state: ActionState) -> ObjectName

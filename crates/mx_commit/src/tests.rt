@@ -201,15 +201,15 @@ fn planned(alloc: Global, files: &[FileRows]) -> Result<Vec<Change>, Fail> {
     if at.number() == 0 || first_double(files).is_some() {
         return Err(Fail::new("the instant is meant, and no two files are of one group"));
     }
-    let made = made_of(alloc, &schema, at, files)?;
-    planned_of(alloc, at, made.as_slice())
+    planned_of(alloc, at, made_of(alloc, &schema, at, files)?)
 }
 
-fn planned_of(alloc: Global, at: Instant, made: &[NewFile]) -> Result<Vec<Change>, Fail>
+fn planned_of(alloc: Global, at: Instant, made: Listed<NewFile>) -> Result<Vec<Change>, Fail>
     requires meant { 0 < at }
-    requires apart { AreApartFiles new_group made.now }
+    requires apart { AreApartFiles new_group made }
 {
-    let entries = entries_of(alloc, at, made, instant(20_241_231_000_000_000)?)?;
+    let before = instant(20_241_231_000_000_000)?;
+    let entries = entries_of(alloc, at, made.as_slice(), before)?;
     Ok(plan_commit(alloc, at, made, entries.as_slice())?)
 }
 

@@ -32,6 +32,8 @@ mod reading_tests;
 mod rising;
 mod rollback_plan;
 mod shard_files;
+#[cfg(test)]
+mod shard_tests;
 mod stats;
 #[cfg(test)]
 mod tests;

@@ -23,6 +23,8 @@ mod new_table;
 mod objects;
 mod pending;
 #[cfg(test)]
+mod reading_tests;
+#[cfg(test)]
 mod tests;
 
 pub use error::{InitError, ReadError};

@@ -14,7 +14,8 @@ use Rattle.mx_parquet.specs.Chunks.{fitted}
 use Rattle.mx_parquet.specs.Filling.{with_cells, blank, FillColumn, HoldColumns, AreFilled, IsGroupOf, Refuses}
 use Rattle.mx_parquet.specs.Faults.{TellsFault, IsColumnsFault}
 use Rattle.mx_parquet.proofs.FaultsSay.{tells_more, others_fault}
-use Rattle.mx_parquet.proofs.RowsSay.{IsFilled, mid_filled, columns_filled, refuses_more, other_columns_refuse}
+use Rattle.mx_parquet.proofs.CellsSay.{IsFilled}
+use Rattle.mx_parquet.proofs.RowsSay.{mid_filled, columns_filled, refuses_more, other_columns_refuse}
 
 abbrev pub blanks : ℕ → List FullRow
 blanks count = replicate count blank

@@ -22,7 +22,9 @@ mod ValuesSay
 mod PagesSay
 mod ShortPages
 mod ChunkSays
+mod CellsSay
 mod RowsSay
+mod RowGroupsSay
 mod FirstColumn
 mod WholeSays
 mod FaultsSay

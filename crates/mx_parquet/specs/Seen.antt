@@ -4,8 +4,8 @@ use Rattle.mx_schema.specs.declared.cell.Cell.{Cell}
 use Rattle.mx_schema.specs.declared.cell.Cell.TheVariants as cells
 use Rattle.mx_schema.specs.declared.column.Column.{Column}
 use Rattle.mx_parquet.specs.declared.row.FullRow.{FullRow}
-use Rattle.mx_parquet.specs.declared.column.CellView.{CellView}
-use Rattle.mx_parquet.specs.declared.column.CellView.TheVariants as views
+use Rattle.mx_parquet.specs.declared.view.CellView.{CellView}
+use Rattle.mx_parquet.specs.declared.view.CellView.TheVariants as views
 use Rattle.mx_parquet.specs.declared.column.ColumnView.{ColumnView}
 use Rattle.mx_parquet.specs.declared.error.Flaw.TheVariants as flaws
 use Rattle.mx_parquet.specs.declared.fields.Standing.{Standing}

@@ -7,12 +7,12 @@ ghost use Rattle.mx_parquet.specs.Seen.{filled};
 
 use crate::column::{ColumnView, HUDI_COUNT, column_at};
 use crate::page_size::page_len;
-use crate::row::FullRow;
 use crate::thrift_size::{column_chunk_len, element_len, head_len, header_len, long_len, root_len};
+use crate::view::RowView;
 use mx_schema::Column;
 
 /// The length of the file of these rows, or 2^64 - 1 where it is greater.
-pub(crate) fn file_len(schema: &[Column], rows: &[FullRow]) -> u64
+pub(crate) fn file_len(schema: &[Column], rows: &[RowView<'_>]) -> u64
     requires { length schema.now ≤ 32 }
     ensures { result ≡ min (length (encoding schema.now rows.now)) (2 ^ 64 - 1) }
 {
@@ -36,7 +36,7 @@ struct Sizes {
     structs: u64,
 }
 
-fn sizes_of(schema: &[Column], rows: &[FullRow]) -> Sizes
+fn sizes_of(schema: &[Column], rows: &[RowView<'_>]) -> Sizes
     requires { length schema.now ≤ 32 }
     ensures chunks { result.chunks ≡ min (length (chunks (filled_columns schema.now rows.now))) (2 ^ 64 - 1) }
     ensures elements { result.elements ≡ min (length (flat_map (λ column. struct_bytes (element column)) (columns_of schema.now))) (2 ^ 64 - 1) }
@@ -60,7 +60,7 @@ fn sizes_of(schema: &[Column], rows: &[FullRow]) -> Sizes
 }
 
 /// The length of the chunk of a column, which stands at a place, or 2^64 - 1 where it is greater.
-fn chunk_len(column: ColumnView<'_>, rows: &[FullRow], place: usize) -> u64
+fn chunk_len(column: ColumnView<'_>, rows: &[RowView<'_>], place: usize) -> u64
     ensures { result ≡ min (length (chunk (filled column.entry place rows.now))) (2 ^ 64 - 1) }
 {
     let page = page_len(column, rows, place);

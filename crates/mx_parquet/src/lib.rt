@@ -13,6 +13,7 @@
 //!
 //! | call | contract |
 //! |---|---|
+//! | `RowView::new`, `cell_view`, `row_views` | the row, the cell and the rows that are to be written, without copies of their texts |
 //! | `rows_fit` | whether a file of a schema can hold the rows |
 //! | `write_rows` | the one file of the rows |
 //! | `size_rows` | its length, without writing it |
@@ -60,6 +61,7 @@ mod schema;
 mod shape;
 mod thrift_size;
 mod values;
+mod view;
 mod writing;
 
 pub use error::{Feature, ParquetError};
@@ -67,6 +69,7 @@ pub use fitting::rows_fit;
 pub use law::a_written_file_holds_its_rows;
 pub use reading::{Contents, read_rows};
 pub use row::FullRow;
+pub use view::{CellView, RowView, cell_view, row_views};
 pub use writing::{size_rows, write_rows};
 
 #[cfg(test)]

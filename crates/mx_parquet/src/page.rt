@@ -6,8 +6,8 @@ ghost use Rattle.mx_parquet.specs.Pages as pages;
 ghost use Rattle.mx_parquet.specs.Pages.{number, level_bytes, plain, truths, bit_sum, packed, value_bytes, page};
 ghost use Rattle.mx_parquet.specs.Seen.{seen_cell, filled};
 
-use crate::column::{CellView, ColumnView, cell_at};
-use crate::row::FullRow;
+use crate::column::ColumnView;
+use crate::view::{CellView, RowView};
 use mx_levels::write_levels;
 use mx_schema::ColumnKind;
 use std::alloc::{AllocError, Global};
@@ -17,7 +17,7 @@ pub(crate) fn put_page(
     alloc: Global,
     out: &mut Vec<u8>,
     column: ColumnView<'_>,
-    rows: &[FullRow],
+    rows: &[RowView<'_>],
     place: usize,
 ) -> Result<(), AllocError>
     requires { length (page (filled column place rows.now)) ≤ 4_194_304 }
@@ -31,7 +31,7 @@ fn put_levels(
     alloc: Global,
     out: &mut Vec<u8>,
     nullable: bool,
-    rows: &[FullRow],
+    rows: &[RowView<'_>],
     place: usize,
 ) -> Result<(), AllocError>
     requires { length (level_bytes nullable (cells_at place rows.now)) ≤ 4_194_304 }
@@ -47,7 +47,7 @@ fn put_levels(
 }
 
 /// Of each row whether its cell at a place is not null.
-fn presence(alloc: Global, rows: &[FullRow], place: usize) -> Result<Vec<bool>, AllocError>
+fn presence(alloc: Global, rows: &[RowView<'_>], place: usize) -> Result<Vec<bool>, AllocError>
     ensures { IfOk result (λ present. present.items ≡ map pages.is_present (cells_at place rows.now)) }
 {
     let mut present = Vec::new(alloc);
@@ -58,17 +58,17 @@ fn presence(alloc: Global, rows: &[FullRow], place: usize) -> Result<Vec<bool>, 
 }
 
 /// Whether a row's cell at a place is not null.
-pub(crate) fn is_present(row: &FullRow, place: usize) -> bool
+pub(crate) fn is_present(row: &RowView<'_>, place: usize) -> bool
     ensures { result ≡ pages.is_present (columns.cell_at place row.now) }
 {
-    !matches!(cell_at(row, place), CellView::Null)
+    !matches!(row.cell_at(place), CellView::Null)
 }
 
 fn put_values(
     alloc: Global,
     out: &mut Vec<u8>,
     kind: ColumnKind,
-    rows: &[FullRow],
+    rows: &[RowView<'_>],
     place: usize,
 ) -> Result<(), AllocError>
     requires { length (value_bytes kind (cells_at place rows.now)) ≤ 4_194_304 }
@@ -83,7 +83,7 @@ fn put_values(
 fn put_truths(
     alloc: Global,
     out: &mut Vec<u8>,
-    rows: &[FullRow],
+    rows: &[RowView<'_>],
     place: usize,
 ) -> Result<(), AllocError>
     ensures { OnOk result (out.new.items ≡ out.old.items ++ packed (flat_map truths (cells_at place rows.now))) }
@@ -93,12 +93,12 @@ fn put_truths(
 }
 
 /// The truth values that the rows have at a place.
-fn truths_of(alloc: Global, rows: &[FullRow], place: usize) -> Result<Vec<bool>, AllocError>
+fn truths_of(alloc: Global, rows: &[RowView<'_>], place: usize) -> Result<Vec<bool>, AllocError>
     ensures { IfOk result (λ bits. bits.items ≡ flat_map truths (cells_at place rows.now)) }
 {
     let mut bits = Vec::new(alloc);
     for row in rows {
-        push_truth(&mut bits, cell_at(row, place))?;
+        push_truth(&mut bits, row.cell_at(place))?;
     }
     Ok(bits)
 }
@@ -138,12 +138,12 @@ fn byte_of(bits: &[bool]) -> u8
     }
 }
 
-fn put_cells(out: &mut Vec<u8>, rows: &[FullRow], place: usize) -> Result<(), AllocError>
+fn put_cells(out: &mut Vec<u8>, rows: &[RowView<'_>], place: usize) -> Result<(), AllocError>
     requires { length (flat_map plain (cells_at place rows.now)) ≤ 4_194_304 }
     ensures { OnOk result (out.new.items ≡ out.old.items ++ flat_map plain (cells_at place rows.now)) }
 {
     for row in rows {
-        put_cell(out, cell_at(row, place))?;
+        put_cell(out, row.cell_at(place))?;
     }
     Ok(())
 }

@@ -7,14 +7,14 @@ ghost use Rattle.mx_parquet.specs.Pages as pages;
 ghost use Rattle.mx_parquet.specs.Pages.{level_bytes, levels, plain, truths, value_bytes, page};
 ghost use Rattle.mx_parquet.specs.Seen.{seen_cell, filled};
 
-use crate::column::{CellView, ColumnView, cell_at};
+use crate::column::ColumnView;
 use crate::page::is_present;
-use crate::row::FullRow;
 use crate::thrift_size::groups_len;
+use crate::view::{CellView, RowView};
 use mx_schema::ColumnKind;
 
 /// The length of the page of a column, which stands at a place, or 2^64 - 1 where it is greater.
-pub(crate) fn page_len(column: ColumnView<'_>, rows: &[FullRow], place: usize) -> u64
+pub(crate) fn page_len(column: ColumnView<'_>, rows: &[RowView<'_>], place: usize) -> u64
     ensures { result ≡ min (length (page (filled column.entry place rows.now))) (2 ^ 64 - 1) }
 {
     level_part_len(column.nullable, rows, place).saturating_add(values_len(
@@ -24,7 +24,7 @@ pub(crate) fn page_len(column: ColumnView<'_>, rows: &[FullRow], place: usize) -
     ))
 }
 
-fn level_part_len(nullable: bool, rows: &[FullRow], place: usize) -> u64
+fn level_part_len(nullable: bool, rows: &[RowView<'_>], place: usize) -> u64
     ensures { result ≡ min (length (level_bytes nullable (cells_at place rows.now))) (2 ^ 64 - 1) }
 {
     if nullable {
@@ -34,21 +34,22 @@ fn level_part_len(nullable: bool, rows: &[FullRow], place: usize) -> u64
     }
 }
 
-fn levels_len(rows: &[FullRow], place: usize) -> u64
+fn levels_len(rows: &[RowView<'_>], place: usize) -> u64
     ensures { result ≡ min (length (levels (cells_at place rows.now))) (2 ^ 64 - 1) }
 {
     let mut len = 0_u64;
-    let mut rest = rows;
-    while let Some(row) = rest.first() {
-        let count = leading(rest, place, is_present(row, place));
+    let mut from = 0;
+    while from < rows.len() {
+        let (_, rest) = rows.split_at(from);
+        let count = leading(rest, place, is_present(&rest[0], place));
         len = len.saturating_add(groups_len(2 * count as u64) + 1);
-        (_, rest) = rest.split_at(count);
+        from += count;
     }
     len
 }
 
 /// How many of the rows in front have a cell at a place that is not null, or how many have none.
-fn leading(rows: &[FullRow], place: usize, present: bool) -> usize
+fn leading(rows: &[RowView<'_>], place: usize, present: bool) -> usize
     ensures count { result ≡ prefix_len (λ row. beq present (pages.is_present (columns.cell_at place row))) rows.now }
     ensures within { result ≤ length rows.now }
 {
@@ -60,7 +61,7 @@ fn leading(rows: &[FullRow], place: usize, present: bool) -> usize
     rows.len()
 }
 
-fn values_len(kind: ColumnKind, rows: &[FullRow], place: usize) -> u64
+fn values_len(kind: ColumnKind, rows: &[RowView<'_>], place: usize) -> u64
     ensures { result ≡ min (length (value_bytes kind (cells_at place rows.now))) (2 ^ 64 - 1) }
 {
     match kind {
@@ -69,12 +70,12 @@ fn values_len(kind: ColumnKind, rows: &[FullRow], place: usize) -> u64
     }
 }
 
-fn truth_count(rows: &[FullRow], place: usize) -> usize
+fn truth_count(rows: &[RowView<'_>], place: usize) -> usize
     ensures { result ≡ length (flat_map truths (cells_at place rows.now)) }
 {
     let mut count = 0;
     for row in rows {
-        count += truth_len(cell_at(row, place));
+        count += truth_len(row.cell_at(place));
     }
     count
 }
@@ -89,12 +90,12 @@ fn truth_len(cell: CellView<'_>) -> usize
     }
 }
 
-fn cells_len(rows: &[FullRow], place: usize) -> u64
+fn cells_len(rows: &[RowView<'_>], place: usize) -> u64
     ensures { result ≡ min (length (flat_map plain (cells_at place rows.now))) (2 ^ 64 - 1) }
 {
     let mut len = 0_u64;
     for row in rows {
-        len = len.saturating_add(cell_len(cell_at(row, place)));
+        len = len.saturating_add(cell_len(row.cell_at(place)));
     }
     len
 }

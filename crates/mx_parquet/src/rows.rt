@@ -181,7 +181,7 @@ fn may_be(place: usize, cell: &Cell) -> bool
     ensures { IsTrue result ↔ MayStand place cell.now }
 {
     match cell {
-        Cell::Text(text) => place != KEY_PLACE || is_key(text),
+        Cell::Text(text) => place != KEY_PLACE || is_key(text.as_str()),
         Cell::Null | Cell::Flag(_) | Cell::Small(_) | Cell::Whole(_) => place >= HUDI_COUNT,
     }
 }

@@ -84,9 +84,10 @@ fn schema_of<R: Abort + AllocGlobal>(rt: &R, text: &str) -> Schema {
     Schema::parse(rt.alloc(), text).ok().expect(rt, "a schema")
 }
 
-fn size_of<R: Abort + AllocGlobal>(rt: &R, schema: &Schema, rows: &[FullRow]) -> u64 {
-    assert!(rt; rows_fit(schema, rows));
-    size_rows(schema, rows)
+fn size_of<R: Abort + AllocGlobal>(rt: &R, schema: &Schema, rows: &[FullRow]) -> Result<u64, Fail> {
+    let views = row_views(rt.alloc(), rows)?;
+    assert!(rt; rows_fit(schema, &views));
+    Ok(size_rows(schema, &views))
 }
 
 fn written<R: Abort + AllocGlobal>(
@@ -94,10 +95,12 @@ fn written<R: Abort + AllocGlobal>(
     schema: &Schema,
     rows: &[FullRow],
 ) -> Result<Vec<u8>, Fail> {
-    assert!(rt; rows_fit(schema, rows));
-    assert!(rt; rows.len() <= 16_384);
-    assert!(rt; size_rows(schema, rows) <= 4_194_304);
-    let out = write_rows(rt.alloc(), schema, rows)?;
+    let views = row_views(rt.alloc(), rows)?;
+    assert!(rt; rows_fit(schema, &views));
+    assert!(rt; views.len() <= 16_384);
+    let size = size_rows(schema, &views);
+    assert!(rt; size <= 4_194_304);
+    let out = write_rows(rt.alloc(), schema, &views, size)?;
     Ok(out)
 }
 
@@ -106,7 +109,7 @@ fn a_file_has_the_size_that_the_format_says(rt: HostRuntime) -> Result<(), Fail>
     let schema = schema_of(&rt, "a:int64");
     for (keys, size) in SIZES {
         let rows = numbers(rt.alloc(), keys)?;
-        assert_eq!(rt; size_of(&rt, &schema, &rows), size, "{keys:?}");
+        assert_eq!(rt; size_of(&rt, &schema, &rows)?, size, "{keys:?}");
         let out = written(&rt, &schema, &rows)?;
         assert_eq!(rt; out.len() as u64, size, "{keys:?}");
     }
@@ -215,7 +218,8 @@ pub(super) fn every_kind<R: Abort + AllocGlobal>(rt: &R) -> Result<Vec<u8>, Fail
 fn fits<R: Abort + AllocGlobal>(rt: &R, key: &str, cells: Vec<Cell>) -> Result<bool, Fail> {
     let alloc = rt.alloc();
     let rows = vec![in alloc; row_of(alloc, key, cells)?]?;
-    Ok(rows_fit(&schema_of(rt, "a:int64,s:string?"), &rows))
+    let views = row_views(alloc, &rows)?;
+    Ok(rows_fit(&schema_of(rt, "a:int64,s:string?"), &views))
 }
 
 fn long_text(alloc: Global, len: usize) -> Result<String, AllocError> {

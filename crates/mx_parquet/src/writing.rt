@@ -13,8 +13,8 @@ use crate::file_size::file_len;
 use crate::footer::{bytes_of, footer_of};
 use crate::page::{put, put_page, put_u32};
 use crate::page_size::page_len;
-use crate::row::FullRow;
 use crate::shape::{column_chunk, page_header};
+use crate::view::RowView;
 use mx_schema::{Column, Schema};
 use mx_thrift::Value;
 use sqlite_items::Items;
@@ -23,30 +23,41 @@ use std::alloc::{AllocError, Global};
 const MAGIC: [u8; 4] = *b"PAR1";
 
 /// The length of the file of these rows, in bytes, or 2^64 - 1 where it is greater.
-pub fn size_rows(schema: &Schema, rows: &[FullRow]) -> u64
+pub fn size_rows(schema: &Schema, rows: &[RowView<'_>]) -> u64
     requires { AllByRecursion (FitsRow schema.now) rows.now }
     ensures { result ≡ min (length (encoding schema.now rows.now)) (2 ^ 64 - 1) }
 {
     file_len(schema.columns(), rows)
 }
 
-/// The one file of these rows.
-pub fn write_rows(alloc: Global, schema: &Schema, rows: &[FullRow]) -> Result<Vec<u8>, AllocError>
+/// The one file of these rows, which has the size that `size_rows` says.
+pub fn write_rows(
+    alloc: Global,
+    schema: &Schema,
+    rows: &[RowView<'_>],
+    size: u64,
+) -> Result<Vec<u8>, AllocError>
     requires fits { AllByRecursion (FitsRow schema.now) rows.now }
     requires count { length rows.now ≤ 16_384 }
-    requires room { length (encoding schema.now rows.now) ≤ 4_194_304 }
+    requires size { size ≡ length (encoding schema.now rows.now) }
+    requires room { size ≤ 4_194_304 }
     ensures { IfOk result (λ bytes. bytes.items ≡ encoding schema.now rows.now) }
 {
-    file_of(alloc, schema.columns(), rows)
+    file_of(alloc, schema.columns(), rows, size as usize)
 }
 
-fn file_of(alloc: Global, schema: &[Column], rows: &[FullRow]) -> Result<Vec<u8>, AllocError>
+fn file_of(
+    alloc: Global,
+    schema: &[Column],
+    rows: &[RowView<'_>],
+    size: usize,
+) -> Result<Vec<u8>, AllocError>
     requires schema { IsSchema schema.now }
     requires count { length rows.now ≤ 16_384 }
     requires room { length (encoding schema.now rows.now) ≤ 4_194_304 }
     ensures { IfOk result (λ bytes. bytes.items ≡ encoding schema.now rows.now) }
 {
-    let mut out = Vec::with_capacity(alloc, file_len(schema, rows) as usize)?;
+    let mut out = Vec::with_capacity(alloc, size)?;
     put_magic(&mut out)?;
     let structs = put_chunks(alloc, &mut out, schema, rows)?;
     put_footer(alloc, &mut out, schema, rows, structs)?;
@@ -65,7 +76,7 @@ fn put_chunks(
     alloc: Global,
     out: &mut Vec<u8>,
     schema: &[Column],
-    rows: &[FullRow],
+    rows: &[RowView<'_>],
 ) -> Result<Items<Value>, AllocError>
     requires columns { length schema.now ≤ 32 }
     requires count { length rows.now ≤ 16_384 }
@@ -90,7 +101,7 @@ fn put_chunk(
     alloc: Global,
     out: &mut Vec<u8>,
     column: ColumnView<'_>,
-    rows: &[FullRow],
+    rows: &[RowView<'_>],
     place: usize,
 ) -> Result<(), AllocError>
     requires count { length rows.now ≤ 16_384 }
@@ -108,7 +119,7 @@ fn put_footer(
     alloc: Global,
     out: &mut Vec<u8>,
     schema: &[Column],
-    rows: &[FullRow],
+    rows: &[RowView<'_>],
     structs: Items<Value>,
 ) -> Result<(), AllocError>
     requires schema { IsSchema schema.now }

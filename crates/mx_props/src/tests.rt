@@ -39,43 +39,45 @@ fn a_config_prints_as_it_was_read(rt: HostRuntime) -> Result<(), Fail> {
     Ok(())
 }
 
+// What stands behind each of the four names, and the first bad line.
+const BAD_LINES: [(&str, &str, &str, &str, u32); 17] = [
+    ("files\n", "\n", "6\n", "a:int64", 3),
+    ("files\n", "\n", "6\n", "a:int64\n\n", 4),
+    ("files\n", "\n", "6\n", "a:int64\nx", 4),
+    ("files\n", "\n", "6\n", "a:int64\r\n", 3),
+    ("files\n", "\n", "6\n", "\u{e9}\n", 3),
+    ("files\n", "\n", "06\n", "a:int64\n", 2),
+    ("files\n", "\n", "1000000000\n", "a:int64\n", 2),
+    ("files\n", "\n", "\n", "a:int64\n", 2),
+    ("files\n", "files\n", "6\n", "a:int64\n", 1),
+    (
+        "files\n",
+        "column_stats,record_index\n",
+        "6\n",
+        "a:int64\n",
+        1,
+    ),
+    ("files,column_stats\n", "column_stats\n", "6\n", "\n", 1),
+    ("files\n", "stats\n", "6\n", "a:int64\n", 1),
+    ("\n", "x\n", "6\n", "\n", 0),
+    ("column_stats\n", "\n", "6\n", "a:int64\n", 0),
+    (
+        "files,record_index,column_stats\n",
+        "\n",
+        "6\n",
+        "a:int64\n",
+        0,
+    ),
+    ("files,files\n", "\n", "6\n", "a:int64\n", 0),
+    ("files,\n", "\n", "6\n", "a:int64\n", 0),
+];
+
 #[test]
 fn bytes_that_are_no_config_are_refused_at_their_first_bad_line(
     rt: HostRuntime,
 ) -> Result<(), Fail> {
     let alloc = rt.alloc();
-    let cases = [
-        ("files\n", "\n", "6\n", "a:int64", 3),
-        ("files\n", "\n", "6\n", "a:int64\n\n", 4),
-        ("files\n", "\n", "6\n", "a:int64\nx", 4),
-        ("files\n", "\n", "6\n", "a:int64\r\n", 3),
-        ("files\n", "\n", "6\n", "\u{e9}\n", 3),
-        ("files\n", "\n", "06\n", "a:int64\n", 2),
-        ("files\n", "\n", "1000000000\n", "a:int64\n", 2),
-        ("files\n", "\n", "\n", "a:int64\n", 2),
-        ("files\n", "files\n", "6\n", "a:int64\n", 1),
-        (
-            "files\n",
-            "column_stats,record_index\n",
-            "6\n",
-            "a:int64\n",
-            1,
-        ),
-        ("files,column_stats\n", "column_stats\n", "6\n", "\n", 1),
-        ("files\n", "stats\n", "6\n", "a:int64\n", 1),
-        ("\n", "x\n", "6\n", "\n", 0),
-        ("column_stats\n", "\n", "6\n", "a:int64\n", 0),
-        (
-            "files,record_index,column_stats\n",
-            "\n",
-            "6\n",
-            "a:int64\n",
-            0,
-        ),
-        ("files,files\n", "\n", "6\n", "a:int64\n", 0),
-        ("files,\n", "\n", "6\n", "a:int64\n", 0),
-    ];
-    for (available, building, version, schema, line) in cases {
+    for (available, building, version, schema, line) in BAD_LINES {
         let text = format!(in alloc;
             "hoodie.table.metadata.partitions={available}hoodie.table.metadata.partitions.inflight={building}hoodie.table.version={version}mdt.schema={schema}"
         )?;

@@ -16,6 +16,8 @@ mod deletes;
 mod error;
 mod instants;
 mod opening;
+#[cfg(test)]
+mod opening_tests;
 mod plan;
 #[cfg(test)]
 mod tests;

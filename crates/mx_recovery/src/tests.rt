@@ -1,17 +1,16 @@
-ghost use Rattle.std.specs.Prelude.{◌≡◌, ◌<◌, ◌^◌, None, Some};
+ghost use Rattle.std.specs.Prelude.{◌≡◌, ◌<◌, ◌^◌, Some};
 
 use crate::{OpenFailed, open_world};
 use mx_base::{Instant, Path};
-use mx_lists::{Bytes, Listed};
 use mx_open::ReadError;
-use mx_store::{Change, MemStore, Named, Store, StoreError};
+use mx_store::{Change, MemStore, Named, Store};
 use std::alloc::Global;
 use std::marker::Brand;
 use std::test::Fail;
 
-const CONFIG: &str = ".hoodie/hoodie.properties";
+pub(crate) const CONFIG: &str = ".hoodie/hoodie.properties";
 
-const REQUESTED: &str = ".hoodie/20250101000000000.commit.requested";
+pub(crate) const REQUESTED: &str = ".hoodie/20250101000000000.commit.requested";
 
 const INFLIGHT: &str = ".hoodie/20250101000000000.inflight";
 
@@ -80,22 +79,19 @@ const COMMIT: [(&str, &[u8]); 7] = [
 // files, its request.
 const DROPPED: [&str; 6] = [LOG, DELTA, MARK, DATA, INFLIGHT, REQUESTED];
 
-const MOMENT: u64 = 20_250_101_000_000_000;
+pub(crate) const MOMENT: u64 = 20_250_101_000_000_000;
 
 const NEXT_REQUESTED: &str = ".hoodie/20250101000000007.commit.requested";
 
 const NEXT_LOG: &str = ".hoodie/metadata/files/files-0000_20250101000000007.log";
 
-const STRAY: &str =
-    "2024-01-01/11111111-1111-4111-8111-111111111111_0-0-0_20250101000000009.parquet";
-
 // What an opening says, and what it leaves.
 #[derive(Drop)]
-struct Seen {
-    said: &'static str,
-    seq: u64,
-    last: u64,
-    store: MemStore,
+pub(crate) struct Seen {
+    pub(crate) said: &'static str,
+    pub(crate) seq: u64,
+    pub(crate) last: u64,
+    pub(crate) store: MemStore,
 }
 
 fn word(why: &ReadError) -> &'static str {
@@ -145,7 +141,7 @@ fn opened_as<N: Named>(alloc: Global, store: MemStore, at: Instant) -> Seen
     }
 }
 
-fn opened(alloc: Global, store: MemStore, now: u64) -> Seen
+pub(crate) fn opened(alloc: Global, store: MemStore, now: u64) -> Seen
     requires meant { 0 < now }
     requires small { now < 10 ^ 17 }
 {
@@ -156,7 +152,12 @@ fn opened(alloc: Global, store: MemStore, now: u64) -> Seen
     opened_as::<Brand>(alloc, store, at)
 }
 
-fn add(alloc: Global, store: &mut MemStore, path: &str, bytes: &[u8]) -> Result<(), Fail> {
+pub(crate) fn add(
+    alloc: Global,
+    store: &mut MemStore,
+    path: &str,
+    bytes: &[u8],
+) -> Result<(), Fail> {
     let path = Path::parse(alloc, path)?;
     match store.create(alloc, &path, bytes) {
         Ok(true) => Ok(()),
@@ -179,7 +180,7 @@ fn add_front(alloc: Global, store: &mut MemStore, count: usize) -> Result<(), Fa
 }
 
 // A new table with the first so many objects of the commit.
-fn table_with(alloc: Global, count: usize) -> Result<MemStore, Fail> {
+pub(crate) fn table_with(alloc: Global, count: usize) -> Result<MemStore, Fail> {
     let mut store = MemStore::empty(alloc);
     add_all(alloc, &mut store, &NEW_TABLE)?;
     add_front(alloc, &mut store, count)?;
@@ -187,7 +188,11 @@ fn table_with(alloc: Global, count: usize) -> Result<MemStore, Fail> {
 }
 
 // A new table with the first so many objects of the commit, and with these.
-fn table_of(alloc: Global, count: usize, objects: &[(&str, &[u8])]) -> Result<MemStore, Fail> {
+pub(crate) fn table_of(
+    alloc: Global,
+    count: usize,
+    objects: &[(&str, &[u8])],
+) -> Result<MemStore, Fail> {
     let mut store = table_with(alloc, count)?;
     add_all(alloc, &mut store, objects)?;
     Ok(store)
@@ -342,139 +347,6 @@ fn a_recovery_that_stopped_is_gone_on_with(rt: HostRuntime) -> Result<(), Fail> 
         let kept = is_gone_on_with(alloc, place, false)?;
         let applied = is_gone_on_with(alloc, place, true)?;
         assert!(rt; kept && applied, "at {place}");
-    }
-    Ok(())
-}
-
-// The last instant after the opening of a table with the first so many objects of the commit.
-fn last_with(alloc: Global, count: usize, now: u64) -> Result<u64, Fail>
-    requires meant { 0 < now }
-    requires small { now < 10 ^ 17 }
-{
-    let seen = opened(alloc, table_with(alloc, count)?, now);
-    Ok(seen.last)
-}
-
-#[test]
-fn the_last_instant_is_the_greatest_in_any_name_at_the_opening(
-    rt: HostRuntime,
-) -> Result<(), Fail> {
-    let alloc = rt.alloc();
-    // how many objects of the commit stand, the moment, and the last instant
-    const CASES: [(usize, u64, u64); 4] = [
-        (0, 5, 4),
-        (1, 5, MOMENT),
-        (7, MOMENT, MOMENT),
-        (7, MOMENT + 8, MOMENT + 7),
-    ];
-    for (count, now, last) in CASES {
-        let found = last_with(alloc, count, now)?;
-        assert_eq!(rt; found, last, "at {count}");
-    }
-    Ok(())
-}
-
-#[test]
-fn the_name_of_a_data_file_counts_for_the_last_instant(rt: HostRuntime) -> Result<(), Fail> {
-    let alloc = rt.alloc();
-    let seen = opened(alloc, table_of(alloc, 0, &[(STRAY, b"x")])?, MOMENT);
-    assert_eq!(rt; seen.last, MOMENT + 9);
-    Ok(())
-}
-
-// Whether a folder of one object is refused for this, and kept.
-fn is_refused(alloc: Global, path: &str, text: &str, said: &str) -> Result<bool, Fail> {
-    let mut store = MemStore::empty(alloc);
-    add(alloc, &mut store, path, text.as_bytes())?;
-    let seen = opened(alloc, store, MOMENT);
-    Ok(seen.said == said && seen.store.journal().len() == 1)
-}
-
-#[test]
-fn a_folder_that_does_not_open_is_refused_and_kept(rt: HostRuntime) -> Result<(), Fail> {
-    let alloc = rt.alloc();
-    const VERSION_5: &str =
-        "hoodie.table.metadata.partitions=files\nhoodie.table.metadata.partitions.inflight=\nhoodie.table.version=5\nmdt.schema=a:int64\n";
-    // an object, and what the opening says
-    const CASES: [(&str, &str, &str); 3] = [
-        (REQUESTED, "{}", "no table"),
-        (CONFIG, VERSION_5, "version 5"),
-        (CONFIG, "x", CONFIG),
-    ];
-    for (path, text, said) in CASES {
-        let refused = is_refused(alloc, path, text, said)?;
-        assert!(rt; refused, "{said}");
-    }
-    Ok(())
-}
-
-// A store in memory that tells nothing, as one over a disk does.
-#[derive(Drop)]
-struct Quiet {
-    inner: MemStore,
-}
-
-impl Store for Quiet {
-    ghost journal = { λ s. None };
-
-    ghost reads = { λ s. None };
-
-    ghost faults = { λ s. s.inner.faults };
-
-    fn list(&mut self, alloc: Global, prefix: &str) -> Result<Listed<Path>, StoreError> {
-        self.inner.list(alloc, prefix)
-    }
-
-    fn get(&mut self, alloc: Global, path: &Path) -> Result<Option<Bytes>, StoreError> {
-        self.inner.get(alloc, path)
-    }
-
-    fn get_range(
-        &mut self,
-        alloc: Global,
-        path: &Path,
-        at: u64,
-        len: u64,
-    ) -> Result<Option<Bytes>, StoreError> {
-        self.inner.get_range(alloc, path, at, len)
-    }
-
-    fn create(&mut self, alloc: Global, path: &Path, bytes: &[u8]) -> Result<bool, StoreError> {
-        self.inner.create(alloc, path, bytes)
-    }
-
-    fn put(&mut self, alloc: Global, path: &Path, bytes: &[u8]) -> Result<(), StoreError> {
-        self.inner.put(alloc, path, bytes)
-    }
-
-    fn delete(&mut self, alloc: Global, path: &Path) -> Result<bool, StoreError> {
-        self.inner.delete(alloc, path)
-    }
-}
-
-// The count of changes and the last instant after the opening of a store that tells nothing.
-fn opened_untold<N: Named>(alloc: Global, inner: MemStore) -> Result<(u64, u64), Fail>
-    requires opening { N.opening ≡ None }
-    requires moment { N.moment ≡ 20250101000000000 }
-{
-    let now = match Instant::new(MOMENT) {
-        Some(at) => at,
-        None => unreachable!(),
-    };
-    match open_world::<Quiet, N>(alloc, Quiet { inner }, now) {
-        Ok(world) => Ok((world.seq(), world.last().number())),
-        Err(_) => Err(Fail::new("the folder opens")),
-    }
-}
-
-#[test]
-fn a_store_that_tells_nothing_is_opened_alike(rt: HostRuntime) -> Result<(), Fail> {
-    let alloc = rt.alloc();
-    for count in [0, 3, 6] {
-        let (seq, last) = opened_untold::<Brand>(alloc, table_with(alloc, count)?)?;
-        let greatest = if count == 0 { MOMENT - 1 } else { MOMENT };
-        assert_eq!(rt; seq, count as u64);
-        assert_eq!(rt; last, greatest);
     }
     Ok(())
 }

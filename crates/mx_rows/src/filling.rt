@@ -1,5 +1,7 @@
-ghost use Rattle.std.specs.Prelude.{◌≡◌, [], IfOk, unwrap_or};
+ghost use Rattle.std.specs.Prelude.{◌≡◌, ◌++◌, ◌∷◌, [], IfOk, decimal, unwrap_or};
 ghost use Rattle.std.specs.List.{AllByRecursion};
+ghost use Rattle.std.specs.Str.{IsUtf8};
+ghost use Rattle.mx_base.specs.Digits.{instant_text};
 ghost use Rattle.mx_parquet.specs.Fits.{FitsRow, HasTexts, IsEncoded};
 ghost use Rattle.mx_schema.specs.Rows.{FitsAll, asked};
 ghost use Rattle.mx_rows.specs.Checks as checks;
@@ -10,8 +12,8 @@ use crate::cells::{behind_key, cells_of};
 use crate::doubles::key_of;
 use mx_base::{Instant, Partition};
 use mx_lists::Text;
-use mx_parquet::FullRow;
-use mx_schema::{Cell, Row, Schema};
+use mx_parquet::RowView;
+use mx_schema::{Row, Schema};
 use std::alloc::{AllocError, Global};
 
 /// Where the rows of a file are written.
@@ -26,90 +28,84 @@ pub struct Place<'a> {
     pub name: &'a Text,
 }
 
-/// The rows of the file at a place, with the five columns of Hudi.
-pub fn full_rows(
+/// The rows of the file at a place, with the five columns of Hudi. They have no copies of the rows' texts.
+pub fn full_rows<'a>(
     alloc: Global,
     schema: &Schema,
-    place: &Place<'_>,
-    rows: &[Row],
-) -> Result<Vec<FullRow>, AllocError>
+    place: &Place<'a>,
+    rows: &'a [Row],
+) -> Result<Vec<RowView<'a>>, AllocError>
     requires fit { RowsFit schema.now rows.now }
     ensures rows { IfOk result (λ full. full.items ≡ spec.full_rows schema.now (record { at = place.now.at; number = place.now.number; partition = place.now.partition.now; name = place.now.name.now }) rows.now) }
     ensures fit { IfOk result (λ full. AllByRecursion (FitsRow schema.now) full.items) }
     ensures texts { IfOk result (λ full. AllByRecursion HasTexts full.items) }
 {
+    let time = place.at.to_text(alloc)?;
     let mut full = Vec::with_capacity(alloc, rows.len())?;
     for number in 0..rows.len() {
-        full.push(full_row(alloc, schema, place, number as u64, &rows[number])?)?;
+        let row = full_row(alloc, schema, place, &time, number as u64, &rows[number])?;
+        full.push(row)?;
     }
     Ok(full)
 }
 
-fn full_row(
+fn full_row<'a>(
     alloc: Global,
     schema: &Schema,
-    place: &Place<'_>,
+    place: &Place<'a>,
+    time: &Text,
     number: u64,
-    row: &Row,
-) -> Result<FullRow, AllocError>
-    requires { FitsAll (asked schema.now) row.now }
+    row: &'a Row,
+) -> Result<RowView<'a>, AllocError>
+    requires time { time.now ≡ instant_text place.now.at }
+    requires fits { FitsAll (asked schema.now) row.now }
     ensures texts { IfOk result (λ full. HasTexts full) }
     ensures row { IfOk result (λ full. full ≡ spec.full_row schema.now (record { at = place.now.at; number = place.now.number; partition = place.now.partition.now; name = place.now.name.now }) number row.now) }
 {
-    let full = FullRow {
-        commit_time: place.at.to_text(alloc)?,
-        commit_seqno: seqno(alloc, place.at, place.number, number)?,
-        record_key: record_key(alloc, row)?,
-        partition_path: Text::from_str(alloc, place.partition.as_str())?,
-        file_name: place.name.clone()?,
-        cells: cells_of(alloc, schema.columns(), behind_key(row))?,
-    };
+    let seqno = seqno(alloc, time.as_str(), place.number, number)?;
+    let cells = cells_of(alloc, schema.columns(), behind_key(row))?;
+    let full = RowView::new(
+        time.clone()?,
+        seqno,
+        record_key(row),
+        place.partition.as_str(),
+        place.name.as_str(),
+        cells,
+    );
     tell_texts(&full);
     Ok(full)
 }
 
-// The calls tell that the texts are in UTF-8.
-fn tell_texts(row: &FullRow)
+fn tell_texts(row: &RowView<'_>)
+    requires { AllByRecursion IsEncoded row.now.cells }
     ensures { HasTexts row.now }
 {
-    let _commit_time = row.commit_time.as_str().as_bytes();
-    let _commit_seqno = row.commit_seqno.as_str().as_bytes();
-    let _record_key = row.record_key.as_str().as_bytes();
-    let _partition_path = row.partition_path.as_str().as_bytes();
-    let _file_name = row.file_name.as_str().as_bytes();
-    tell_cells(row.cells.as_slice());
+    tell_text(row.commit_time());
+    tell_text(row.commit_seqno());
+    tell_text(row.record_key());
+    tell_text(row.partition_path());
+    tell_text(row.file_name());
 }
 
-fn tell_cells(cells: &[Cell])
-    ensures { AllByRecursion IsEncoded cells.now }
+// The call tells that the text is in UTF-8.
+fn tell_text(text: &str)
+    ensures { IsUtf8 text.now }
 {
-    for cell in cells {
-        tell_cell(cell);
-    }
+    let _bytes = text.as_bytes();
 }
 
-fn tell_cell(cell: &Cell)
-    ensures { IsEncoded cell.now }
+fn seqno(alloc: Global, time: &str, file: u64, row: u64) -> Result<Text, AllocError>
+    ensures { IfOk result (λ text. text ≡ time.now ++ (95 ∷ decimal file) ++ (95 ∷ decimal row)) }
 {
-    if let Cell::Text(text) = cell {
-        let _text = text.as_str().as_bytes();
-    }
-}
-
-fn seqno(alloc: Global, at: Instant, file: u64, row: u64) -> Result<Text, AllocError>
-    ensures { IfOk result (λ text. text ≡ spec.seqno at file row) }
-{
-    let at = at.to_text(alloc)?;
-    let at = at.as_str();
-    Ok(Text::from_string(format!(in alloc; "{at}_{file}_{row}")?))
+    Ok(Text::from_string(format!(in alloc; "{time}_{file}_{row}")?))
 }
 
 // The key of a row, empty where it has none.
-fn record_key(alloc: Global, row: &Row) -> Result<Text, AllocError>
-    ensures { IfOk result (λ key. key ≡ unwrap_or (checks.key_of row.now) []) }
+fn record_key(row: &Row) -> &str
+    ensures { result.now ≡ unwrap_or (checks.key_of row.now) [] }
 {
     match key_of(row) {
-        Some(key) => key.clone(),
-        None => Ok(Text::new(alloc)),
+        Some(key) => key.as_str(),
+        None => "",
     }
 }

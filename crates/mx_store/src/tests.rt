@@ -72,58 +72,62 @@ fn listed(alloc: Global, answered: Result<Listed<Path>, StoreError>) -> Result<V
     Ok(line)
 }
 
+// The calls of one store in turn, with what each answers.
+const CALLS: [(Call, &[u8]); 30] = [
+    (Call::Create("b/2", b"two"), b"yes"),
+    (Call::Create("b/2", b"other"), b"no"),
+    (Call::Get("b/2"), b"two"),
+    (Call::Put("b/2", b"deux"), b"yes"),
+    (Call::Get("b/2"), b"deux"),
+    (Call::Put("b/10", b"ten"), b"yes"),
+    (Call::Put("b/1", b"one"), b"yes"),
+    (Call::Create("a", b"x"), b"yes"),
+    (Call::List("b/"), b"b/1 b/10 b/2 "),
+    (Call::GetRange("b/2", 1, 2), b"eu"),
+    (Call::GetRange("b/2", 2, 9), b"ux"),
+    (Call::GetRange("b/2", 4, 1), b""),
+    (Call::GetRange("b/2", 9, 1), b""),
+    (Call::GetRange("c", 0, 1), b"-"),
+    (Call::Delete("a"), b"yes"),
+    (Call::Delete("a"), b"no"),
+    (Call::Get("a"), b"-"),
+    (Call::Create("f", b"1"), b"failed"),
+    (Call::Get("f"), b"-"),
+    (Call::Create("f", b"2"), b"failed"),
+    (Call::Get("f"), b"2"),
+    (Call::Create("f", b"3"), b"failed"),
+    (Call::Get("f"), b"2"),
+    (Call::Delete("f"), b"failed"),
+    (Call::Get("f"), b"-"),
+    (Call::Delete("f"), b"failed"),
+    (Call::Get("b/2"), b"failed"),
+    (Call::List(""), b"b/1 b/10 b/2 "),
+    (Call::Put("b/1", b"uno"), b"failed"),
+    (Call::Get("b/1"), b"one"),
+];
+
+// The calls that fail, by their places, and whether a change is made all the same.
+const FAILURES: [(u64, bool); 8] = [
+    (17, false),
+    (19, false),
+    (19, true),
+    (21, true),
+    (23, true),
+    (25, true),
+    (26, true),
+    (28, false),
+];
+
 #[test]
 fn a_store_in_memory_answers_by_its_journal_and_fails_where_it_is_told(
     rt: HostRuntime,
 ) -> Result<(), Fail> {
     let alloc = rt.alloc();
-    let cases: [(Call, &[u8]); 30] = [
-        (Call::Create("b/2", b"two"), b"yes"),
-        (Call::Create("b/2", b"other"), b"no"),
-        (Call::Get("b/2"), b"two"),
-        (Call::Put("b/2", b"deux"), b"yes"),
-        (Call::Get("b/2"), b"deux"),
-        (Call::Put("b/10", b"ten"), b"yes"),
-        (Call::Put("b/1", b"one"), b"yes"),
-        (Call::Create("a", b"x"), b"yes"),
-        (Call::List("b/"), b"b/1 b/10 b/2 "),
-        (Call::GetRange("b/2", 1, 2), b"eu"),
-        (Call::GetRange("b/2", 2, 9), b"ux"),
-        (Call::GetRange("b/2", 4, 1), b""),
-        (Call::GetRange("b/2", 9, 1), b""),
-        (Call::GetRange("c", 0, 1), b"-"),
-        (Call::Delete("a"), b"yes"),
-        (Call::Delete("a"), b"no"),
-        (Call::Get("a"), b"-"),
-        (Call::Create("f", b"1"), b"failed"),
-        (Call::Get("f"), b"-"),
-        (Call::Create("f", b"2"), b"failed"),
-        (Call::Get("f"), b"2"),
-        (Call::Create("f", b"3"), b"failed"),
-        (Call::Get("f"), b"2"),
-        (Call::Delete("f"), b"failed"),
-        (Call::Get("f"), b"-"),
-        (Call::Delete("f"), b"failed"),
-        (Call::Get("b/2"), b"failed"),
-        (Call::List(""), b"b/1 b/10 b/2 "),
-        (Call::Put("b/1", b"uno"), b"failed"),
-        (Call::Get("b/1"), b"one"),
-    ];
-    let failures: [(u64, bool); 8] = [
-        (17, false),
-        (19, false),
-        (19, true),
-        (21, true),
-        (23, true),
-        (25, true),
-        (26, true),
-        (28, false),
-    ];
     let mut store = MemStore::empty(alloc);
-    for (call, applied) in failures {
+    for (call, applied) in FAILURES {
         store.fail(call, applied)?;
     }
-    for (call, expected) in cases {
+    for (call, expected) in CALLS {
         assert_eq!(rt;
             answer(alloc, &mut store, call)?.as_slice(),
             expected,

@@ -1,4 +1,5 @@
 pub mod EarlyLemmas
+pub mod ChangeLemmas
 pub mod CommitLemmas
 pub mod EntryLemmas
 pub mod EndLemmas

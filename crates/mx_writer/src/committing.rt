@@ -73,13 +73,12 @@ pub fn commit<S: Store, N: Named>(
     ensures commits { Commits files.now (standing S.journal table.old) (standing S.journal table.new) result }
     ensures faults { CountsCommit (S.faults table.old.store) (S.faults table.new.store) result }
 {
-    let held = files_made(alloc, table, files)?;
-    let made = held.as_slice();
+    let made = files_made(alloc, table, files)?;
     let Some(at) = table.last().next() else {
         return Err(CommitError::InstantsUsedUp);
     };
     check_room(alloc, table, files)?;
-    let entries = entries_of(alloc, table, made, at)?;
+    let entries = entries_of(alloc, table, made.as_slice(), at)?;
     let changes = plan_commit(alloc, at, made, entries.as_slice())?;
     table.change_in_turn(alloc, changes)?;
     Ok(at)

@@ -13,6 +13,8 @@
 mod checking;
 mod committing;
 #[cfg(test)]
+mod refusal_tests;
+#[cfg(test)]
 mod tests;
 
 pub use committing::{CommitError, commit};

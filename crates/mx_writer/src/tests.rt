@@ -4,8 +4,6 @@ use crate::{CommitError, commit};
 use mx_ask::{FileRows, Limit};
 use mx_base::{FileId, Instant, Part, Partition, Path};
 use mx_lists::{Bytes, Listed, Text};
-use mx_meta::{CommitMeta, PartitionStats, WriteStat};
-use mx_model::Action;
 use mx_props::Props;
 use mx_schema::{Row, RowValue, Schema};
 use mx_store::{MemStore, Store, StoreError};
@@ -16,8 +14,8 @@ use std::test::Fail;
 
 // A store in memory that tells nothing, as one over a disk does.
 #[derive(Drop)]
-struct Quiet {
-    inner: MemStore,
+pub(crate) struct Quiet {
+    pub(crate) inner: MemStore,
 }
 
 impl Store for Quiet {
@@ -58,7 +56,7 @@ impl Store for Quiet {
     }
 }
 
-const MOMENT: u64 = 20_250_101_000_000_000;
+pub(crate) const MOMENT: u64 = 20_250_101_000_000_000;
 
 // The log of one file of 693 bytes, as tools/print-index-objects prints it.
 const LOG: &[u8] =
@@ -125,7 +123,7 @@ const OBJECTS: [(&str, &[u8]); 7] = [
     ),
 ];
 
-fn config(alloc: Global, schema: &str) -> Result<Props, Fail> {
+pub(crate) fn config(alloc: Global, schema: &str) -> Result<Props, Fail> {
     let available = Listed::from_vec(vec![in alloc; Part::Files]?);
     let Ok(schema) = Schema::parse(alloc, schema) else {
         return Err(Fail::new("the schema is one"));
@@ -137,14 +135,14 @@ fn config(alloc: Global, schema: &str) -> Result<Props, Fail> {
 }
 
 // A table of no objects whose store's call of this number fails and is not applied.
-fn table(alloc: Global, last: u64, failing: u64) -> Result<World<Quiet, Brand>, Fail>
+pub(crate) fn table(alloc: Global, last: u64, failing: u64) -> Result<World<Quiet, Brand>, Fail>
     ensures { IfOk result (λ table. table.doubt ≡ None) }
 {
     table_of(alloc, "a:int64", last, failing)
 }
 
 // The same of a schema.
-fn table_of(
+pub(crate) fn table_of(
     alloc: Global,
     schema: &str,
     last: u64,
@@ -169,7 +167,7 @@ fn row(alloc: Global, key: &str, number: i64) -> Result<Row, AllocError> {
     Ok(row)
 }
 
-fn file_with(alloc: Global, id: &str, rows: Listed<Row>) -> Result<FileRows, Fail> {
+pub(crate) fn file_with(alloc: Global, id: &str, rows: Listed<Row>) -> Result<FileRows, Fail> {
     Ok(FileRows {
         file: FileId::parse(id)?,
         partition: Partition::parse(alloc, "2024-01-01")?,
@@ -177,14 +175,14 @@ fn file_with(alloc: Global, id: &str, rows: Listed<Row>) -> Result<FileRows, Fai
     })
 }
 
-fn file(alloc: Global, id: &str) -> Result<FileRows, Fail> {
+pub(crate) fn file(alloc: Global, id: &str) -> Result<FileRows, Fail> {
     let mut rows = Listed::new(alloc);
     rows.push(row(alloc, "a", 1)?)?;
     file_with(alloc, id, rows)
 }
 
 // So many files of the partition, each of a group of its own.
-fn files(alloc: Global, count: u32) -> Result<Vec<FileRows>, Fail> {
+pub(crate) fn files(alloc: Global, count: u32) -> Result<Vec<FileRows>, Fail> {
     let mut files = Vec::new(alloc);
     for number in 0..count {
         let id = format!(in alloc; "{number:08}-1111-4111-8111-111111111111")?;
@@ -194,7 +192,7 @@ fn files(alloc: Global, count: u32) -> Result<Vec<FileRows>, Fail> {
 }
 
 // The word of the answer to a commit.
-fn committed(
+pub(crate) fn committed(
     alloc: Global,
     table: &mut World<Quiet, Brand>,
     files: &[FileRows],
@@ -261,7 +259,7 @@ fn a_commit_of_one_file_makes_its_seven_objects(rt: HostRuntime) -> Result<(), F
 }
 
 // The word of a commit of so many files, and the number of changes.
-fn made(alloc: Global, count: u32, last: u64) -> Result<(&'static str, u64), Fail> {
+pub(crate) fn made(alloc: Global, count: u32, last: u64) -> Result<(&'static str, u64), Fail> {
     let mut table = table(alloc, last, 100)?;
     let said = committed(alloc, &mut table, files(alloc, count)?.as_slice())?;
     Ok((said, table.seq()))
@@ -275,82 +273,6 @@ fn a_commit_makes_six_changes_and_one_more_for_each_file_and_five_without(
     assert_eq!(rt; made(alloc, 0, MOMENT)?, ("committed", 5));
     assert_eq!(rt; made(alloc, 2, MOMENT)?, ("committed", 8));
     assert_eq!(rt; made(alloc, 16, MOMENT)?, ("committed", 22));
-    Ok(())
-}
-
-#[test]
-fn seventeen_files_and_two_of_one_group_are_refused(rt: HostRuntime) -> Result<(), Fail> {
-    let alloc = rt.alloc();
-    assert_eq!(rt; made(alloc, 17, MOMENT)?, ("too many", 0));
-    let mut table = table(alloc, MOMENT, 100)?;
-    let mut twice = files(alloc, 3)?;
-    twice.push(file(alloc, "00000001-1111-4111-8111-111111111111")?)?;
-    let said = committed(alloc, &mut table, twice.as_slice())?;
-    assert_eq!(rt; said, "double");
-    assert_eq!(rt; table.seq(), 0);
-    Ok(())
-}
-
-// A commit that lists so many files, each of a group of its own.
-fn listing(alloc: Global, count: u32) -> Result<Action, Fail> {
-    let partition = Partition::parse(alloc, "2024-01-02")?;
-    let at = Instant::parse("00000000000000001")?;
-    let mut stats = Listed::new(alloc);
-    for number in 0..count {
-        let id = format!(in alloc; "{number:08}-1111-4111-8111-111111111111")?;
-        let file_id = FileId::parse(id.as_str())?;
-        stats.push(WriteStat {
-            file_id,
-            file_size_in_bytes: 0,
-            num_writes: 0,
-            path: Path::of_data_file(alloc, &partition, &file_id, at)?,
-            prev_commit: None,
-        })?;
-    }
-    let mut partitions = Listed::new(alloc);
-    partitions.push(PartitionStats { partition, stats })?;
-    Ok(Action {
-        at,
-        meta: CommitMeta { partitions },
-    })
-}
-
-// The request of each of so many instants.
-fn requests(alloc: Global, count: u64) -> Result<Vec<Path>, Fail> {
-    let mut paths = Vec::new(alloc);
-    for number in 0..count {
-        let path = format!(in alloc; ".hoodie/{number:016}1.commit.requested")?;
-        paths.push(Path::parse(alloc, path.as_str())?)?;
-    }
-    Ok(paths)
-}
-
-// The word of a commit of so many files to a table of so many instants and live files, and the number of changes.
-fn crowded(
-    alloc: Global,
-    instants: u64,
-    live: u32,
-    count: u32,
-) -> Result<(&'static str, u64), Fail> {
-    let commits = [listing(alloc, live)?];
-    let paths = requests(alloc, instants)?;
-    let mirror = Mirror::of(alloc, config(alloc, "a:int64")?, paths.as_slice(), &commits)?;
-    let inner = MemStore::empty(alloc);
-    let Some(last) = Instant::new(MOMENT) else {
-        return Err(Fail::new("the last instant is one"));
-    };
-    let mut table: World<Quiet, Brand> = World::over(Quiet { inner }, mirror, last, 0);
-    let said = committed(alloc, &mut table, files(alloc, count)?.as_slice())?;
-    Ok((said, table.seq()))
-}
-
-#[test]
-fn a_table_takes_8192_instants_and_8192_live_files(rt: HostRuntime) -> Result<(), Fail> {
-    let alloc = rt.alloc();
-    assert_eq!(rt; crowded(alloc, 8191, 8191, 1)?, ("committed", 7));
-    assert_eq!(rt; crowded(alloc, 8192, 0, 1)?, ("too many", 0));
-    assert_eq!(rt; crowded(alloc, 8191, 8192, 1)?, ("too many", 0));
-    assert_eq!(rt; crowded(alloc, 8191, 8192, 0)?, ("committed", 5));
     Ok(())
 }
 
@@ -372,97 +294,5 @@ fn no_commit_is_made_behind_the_greatest_instant(rt: HostRuntime) -> Result<(), 
     let alloc = rt.alloc();
     assert_eq!(rt; made(alloc, 1, 99_999_999_999_999_999)?, ("used up", 0));
     assert_eq!(rt; made(alloc, 17, 99_999_999_999_999_999)?, ("too many", 0));
-    Ok(())
-}
-
-// A row of a key and a text.
-fn text_row(alloc: Global, key: &str, text: &str) -> Result<Row, AllocError> {
-    let mut row = Listed::new(alloc);
-    row.push(RowValue::Text(Text::from_str(alloc, key)?))?;
-    row.push(RowValue::Text(Text::from_str(alloc, text)?))?;
-    Ok(row)
-}
-
-// A file of so many rows of 4,096 bytes of text.
-fn long_texts(alloc: Global, id: &str, count: u64) -> Result<FileRows, Fail> {
-    let text = "t".repeat(alloc, 4096)?;
-    let mut rows = Listed::new(alloc);
-    for number in 0..count {
-        let key = format!(in alloc; "{number}")?;
-        rows.push(text_row(alloc, key.as_str(), text.as_str())?)?;
-    }
-    file_with(alloc, id, rows)
-}
-
-// A file of so many rows without a cell, all of one key.
-fn short_rows(alloc: Global, id: &str, count: u64) -> Result<FileRows, Fail> {
-    let mut rows = Listed::new(alloc);
-    for _ in 0..count {
-        let mut short = Listed::new(alloc);
-        short.push(RowValue::Text(Text::from_str(alloc, "a")?))?;
-        rows.push(short)?;
-    }
-    file_with(alloc, id, rows)
-}
-
-// A file of two rows of one key.
-fn twins(alloc: Global, id: &str) -> Result<FileRows, Fail> {
-    let mut rows = Listed::new(alloc);
-    rows.push(text_row(alloc, "a", "")?)?;
-    rows.push(text_row(alloc, "a", "b")?)?;
-    file_with(alloc, id, rows)
-}
-
-const FIRST: &str = "00000001-1111-4111-8111-111111111111";
-
-const SECOND: &str = "00000002-1111-4111-8111-111111111111";
-
-// Two files that are refused, by what is looked for before all else that is wrong with them.
-fn refused_files(alloc: Global, case: u32) -> Result<(&'static str, FileRows, FileRows), Fail> {
-    Ok(match case {
-        0 => (
-            "too many rows",
-            short_rows(alloc, FIRST, 1)?,
-            short_rows(alloc, FIRST, 16_385)?,
-        ),
-        1 => ("double", short_rows(alloc, FIRST, 1)?, twins(alloc, FIRST)?),
-        2 => (
-            "bad row",
-            twins(alloc, FIRST)?,
-            short_rows(alloc, SECOND, 1)?,
-        ),
-        3 => (
-            "double row",
-            long_texts(alloc, FIRST, 1030)?,
-            twins(alloc, SECOND)?,
-        ),
-        _ => (
-            "too large",
-            long_texts(alloc, FIRST, 1)?,
-            long_texts(alloc, SECOND, 1030)?,
-        ),
-    })
-}
-
-// The wanted word of a case, that of the commit behind the last instant, and the number of changes.
-fn refused(alloc: Global, case: u32, last: u64) -> Result<(&'static str, &'static str, u64), Fail> {
-    let (wanted, first, second) = refused_files(alloc, case)?;
-    let files = vec![in alloc; first, second]?;
-    let mut table = table_of(alloc, "s:string", last, 100)?;
-    let said = committed(alloc, &mut table, files.as_slice())?;
-    Ok((wanted, said, table.seq()))
-}
-
-#[test]
-fn rows_are_refused_in_the_order_of_the_refusals_and_before_the_last_instant(
-    rt: HostRuntime,
-) -> Result<(), Fail> {
-    for case in 0..5_u32 {
-        for last in [MOMENT, 99_999_999_999_999_999] {
-            let (wanted, said, changes) = refused(rt.alloc(), case, last)?;
-            assert_eq!(rt; said, wanted);
-            assert_eq!(rt; changes, 0);
-        }
-    }
     Ok(())
 }

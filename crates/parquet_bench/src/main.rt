@@ -4,7 +4,7 @@
 //! file is written again. It prints the rounds and the bytes that were made.
 #![tactic(auto)]
 
-use mx_parquet::{Contents, read_rows, rows_fit, size_rows, write_rows};
+use mx_parquet::{Contents, read_rows, row_views, rows_fit, size_rows, write_rows};
 use std::alloc::Global;
 use std::io::Read;
 use std::{env, io};
@@ -75,11 +75,13 @@ fn round(alloc: Global, bytes: &[u8], work: Work) -> io::Result<u64> {
 // How long the file is that is written of what was read.
 fn written(alloc: Global, contents: &Contents) -> io::Result<u64> {
     let Contents { schema, rows } = contents;
-    if rows.len() > MOST_ROWS
-        || !rows_fit(schema, rows)
-        || size_rows(schema, rows) > MOST_FILE_BYTES
-    {
+    let views = row_views(alloc, rows)?;
+    if views.len() > MOST_ROWS || !rows_fit(schema, &views) {
         return Err(io::Error::from(io::ErrorKind::InvalidData));
     }
-    Ok(write_rows(alloc, schema, rows)?.len() as u64)
+    let size = size_rows(schema, &views);
+    if size > MOST_FILE_BYTES {
+        return Err(io::Error::from(io::ErrorKind::InvalidData));
+    }
+    Ok(write_rows(alloc, schema, &views, size)?.len() as u64)
 }

@@ -1,5 +1,5 @@
-use Rattle.std.specs.Prelude.{Some}
+use Rattle.std.proofs.Common.{None}
 use Rattle.commit_bench.proofs.table.committed.Given as goal
 
 abbrev pub ghosts-filled : goal.ghosts-filled
-ghosts-filled a = record { opening = Some a.store.changes; count = a.store.faults; moment = a.now }
+ghosts-filled a = record { opening = None; count = 0; moment = a.now }

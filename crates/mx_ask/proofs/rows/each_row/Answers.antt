@@ -1,4 +1,6 @@
-use Rattle.std.proofs.Common.{rules, ap, ◌∙◌, ◌∷◌, [], ◌++◌}
+use Rattle.std.proofs.Common.{rules, ap, ◌∙◌, ◌∷◌, [], ◌++◌, length}
+use Rattle.std.proofs.lemmas.Iterator.Adapters.{YieldsList-from_vec}
+use Rattle.std.proofs.lemmas.Iterator.Consumers.{YieldsList-turn}
 use Rattle.std.proofs.lemmas.List.Elements.{All-push, All-same}
 use Rattle.serde_json.specs.View.{view}
 use Rattle.mx_ask.specs.Rows.{row_data, IsRow}
@@ -7,8 +9,8 @@ use Rattle.mx_ask.proofs.rows.each_row.Goals as goal
 
 pub loop-item-preserved : goal.loop-item-preserved
 loop-item-preserved c = (
-  items_more row_data c.args.items.now c.loop-item.rows c.push.new.self c.in_ok-row_in.field-0 c.item-item.result c.loop-item.item-index
-      c.loop-item.invariant.0 c.in_ok-row_in.ensures.ok.0 c.in_ok-push.ensures.ok c.loop-item-test.true c.item-item.is,
+  items_more row_data c.loop-item.yielded c.loop-item.rows c.push.new.self c.in_ok-row_in.field-0 c.in-Some.item
+      c.loop-item.invariant.0 c.in_ok-row_in.ensures.ok.0 c.in_ok-push.ensures.ok,
   All-same IsRow c.push.new.self (c.loop-item.rows ++ c.in_ok-row_in.field-0 ∷ []) c.in_ok-push.ensures.ok
       (All-push IsRow c.loop-item.rows c.in_ok-row_in.field-0 c.loop-item.invariant.1 c.in_ok-row_in.ensures.ok.1),
 )
@@ -16,5 +18,6 @@ loop-item-preserved c = (
 pub returns-in_err-row_in-clause-not_an_ask : goal.returns-in_err-row_in-clause-not_an_ask
 returns-in_err-row_in-clause-not_an_ask c =
     λ refused all named e.
-    let one = item_at row_data IsRow c.args.items.now all c.loop-item.item-index c.item-item.result e named c.loop-item-test.true in
-    c.in_err-row_in.ensures.not_an_ask (search rules) one.0 one.1 (ap view c.item-item.is ∙ one.2)
+    let turn = YieldsList-turn (YieldsList-from_vec c.args.items.items c.into_iter-item-iterator.ensures.into_iter_gives.0 (c.into_iter-item-iterator.ensures.into_iter_gives.1 ∙ c.args.items.ok.0)) c.loop-item.yielded c.loop-item.item-iterator c.loop-item.yielded_by c.next.result c.next.new.self c.in-Some.item c.in-Some.is c.next.ensures.steps in
+    let one = item_at row_data IsRow c.args.items.items all (length c.loop-item.yielded) c.in-Some.item e named turn.0 in
+    c.in_err-row_in.ensures.not_an_ask (search rules) one.0 one.1 (ap view turn.1 ∙ one.2)

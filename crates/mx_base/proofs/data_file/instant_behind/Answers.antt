@@ -2,7 +2,7 @@ use Rattle.std.proofs.Common.{◌∙◌, List, ℕ, not, nat_eq, sym, ap, arith}
 use Rattle.std.specs.Prelude.{codes}
 use lib.Pointwise.{pointwise}
 use Rattle.mx_base.proofs.DataLemmas.{dated}
-use Rattle.mx_base.proofs.ObjectLemmas.{prefixed}
+use Rattle.mx_base.proofs.ObjectReadings.{prefixed}
 use Rattle.mx_base.proofs.data_file.instant_behind.Goals as goal
 
 pub returns-then-ne : goal.returns-then-ne

@@ -2,7 +2,7 @@ use Rattle.std.proofs.Common.{◌-◌, length, sym, arith}
 use Rattle.std.specs.Prelude.{codes}
 use Rattle.mx_base.specs.Paths.{data_file_name}
 use Rattle.mx_base.proofs.DataLemmas.{too_short, cut_before_name, name_behind, cut_behind_file, rest_behind, slash_behind, cut_path}
-use Rattle.mx_base.proofs.ObjectLemmas.{prefixed}
+use Rattle.mx_base.proofs.ObjectReadings.{prefixed}
 use Rattle.mx_base.proofs.data_file.split_file.Goals as goal
 
 pub returns-then-path-lt69 : goal.returns-then-path-lt69

@@ -1,4 +1,4 @@
-use Rattle.mx_base.proofs.ObjectLemmas.{metadata_undated, metadata_unread, metadata_exact, metadata_found}
+use Rattle.mx_base.proofs.ObjectReadings.{metadata_undated, metadata_unread, metadata_exact, metadata_found}
 use Rattle.mx_base.proofs.object_name.metadata_object.Goals as goal
 
 pub returns-in_err-number-clause-only : goal.returns-in_err-number-clause-only

@@ -3,7 +3,8 @@ use Rattle.mx_base.specs.Digits.{instant_text}
 use Rattle.std.specs.Prelude.{codes}
 use Rattle.std.specs.Cmp.Lexicographic.{same_text}
 use lib.Pointwise.{pointwise}
-use Rattle.mx_base.proofs.ObjectLemmas.{IsShardName, base_unparted, log_unparted, base_unsharded, log_unsharded, base_undated, log_undated, base_dated, log_dated, base_no_log, base_found, log_found, base_exact, log_exact}
+use Rattle.mx_base.proofs.ObjectReadings.{IsShardName, base_unparted, log_unparted, base_unsharded, log_unsharded, base_undated, log_undated, base_dated, log_dated, base_found, log_found, base_exact, log_exact}
+use Rattle.mx_base.proofs.ObjectSplits.{base_no_log}
 use Rattle.mx_base.proofs.object_name.shard_object.Goals as goal
 
 other_text : (ending : List ℕ) → false ≡ pointwise nat_eq ending (codes ".log") → ending ≢ codes ".log"

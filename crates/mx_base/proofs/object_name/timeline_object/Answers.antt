@@ -1,4 +1,4 @@
-use Rattle.mx_base.proofs.ObjectLemmas.{timeline_undated, timeline_unread, timeline_exact, timeline_found}
+use Rattle.mx_base.proofs.ObjectReadings.{timeline_undated, timeline_unread, timeline_exact, timeline_found}
 use Rattle.mx_base.proofs.object_name.timeline_object.Goals as goal
 
 pub returns-in_err-number-clause-only : goal.returns-in_err-number-clause-only

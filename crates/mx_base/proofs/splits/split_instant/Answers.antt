@@ -1,6 +1,6 @@
 use Rattle.std.proofs.Common.{◌∙◌, ap, sym, arith}
 use Rattle.mx_base.specs.Digits.{instant_text}
-use Rattle.mx_base.proofs.ObjectLemmas.{boundary, no_instant, whole_name}
+use Rattle.mx_base.proofs.ObjectSplits.{boundary, no_instant, whole_name}
 use Rattle.mx_base.proofs.splits.split_instant.Goals as goal
 
 pub returns-in_default : goal.returns-in_default

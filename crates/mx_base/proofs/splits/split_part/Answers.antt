@@ -1,4 +1,4 @@
-use Rattle.mx_base.proofs.ObjectLemmas.{no_part}
+use Rattle.mx_base.proofs.ObjectSplits.{no_part}
 use Rattle.mx_base.proofs.splits.split_part.Goals as goal
 
 pub returns : goal.returns

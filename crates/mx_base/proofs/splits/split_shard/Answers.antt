@@ -1,5 +1,5 @@
 use Rattle.std.proofs.Common.{◌∙◌, arith}
-use Rattle.mx_base.proofs.ObjectLemmas.{no_shard}
+use Rattle.mx_base.proofs.ObjectSplits.{no_shard}
 use Rattle.mx_base.proofs.splits.split_shard.Goals as goal
 
 pub returns-in_default : goal.returns-in_default

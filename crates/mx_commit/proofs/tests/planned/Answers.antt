@@ -11,5 +11,5 @@ none_holds (Some x) P Q none holds = absurd (cc none)
 
 pub planned_of-requires-clause-apart : goal.planned_of-requires-clause-apart
 planned_of-requires-clause-apart c =
-    subst (AreApartFiles new_group) (sym (c.as_slice.ensures ∙ c.in_ok-made.ensures))
+    subst (AreApartFiles new_group) (sym (c.in_ok-made_of.ensures))
     (new_apart _ _ c.args.files.now (none_holds c.first_double.result _ _ (search rules) c.first_double.ensures))

@@ -1,5 +1,5 @@
 use Rattle.std.proofs.Common.{◌≡◌, length, arith}
-use Rattle.mx_parquet.proofs.RowsSay.{fill_step}
+use Rattle.mx_parquet.proofs.CellsSay.{fill_step}
 use Rattle.mx_parquet.proofs.rows.fill.Goals as goal
 
 pub loop-cell-preserved : goal.loop-cell-preserved

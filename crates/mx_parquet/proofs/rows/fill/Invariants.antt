@@ -1,5 +1,5 @@
 use Rattle.std.proofs.Common.{◌≡◌, length, take}
-use Rattle.mx_parquet.proofs.RowsSay.{FilledFrom}
+use Rattle.mx_parquet.proofs.CellsSay.{FilledFrom}
 use Rattle.mx_parquet.proofs.rows.fill.Given as goal
 
 abbrev pub invariant-loop-cell : goal.invariant-loop-cell

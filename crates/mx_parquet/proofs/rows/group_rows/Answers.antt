@@ -2,7 +2,7 @@ use Rattle.std.proofs.Common.{◌∙◌, sym, refl, Vec, Global}
 use Rattle.std.proofs.lemmas.Result.{err_from_is_err_and}
 use Rattle.mx_parquet.specs.declared.row.FullRow.{FullRow}
 use Rattle.mx_parquet.proofs.FirstColumn.{blanks, first_filled, all_columns, group_is, others_refuse, others_fail}
-use Rattle.mx_parquet.proofs.RowsSay.{group_only}
+use Rattle.mx_parquet.proofs.RowGroupsSay.{group_only}
 use Rattle.mx_parquet.proofs.rows.group_rows.Goals as goal
 
 pub fill_columns-requires-clause-as_long : goal.fill_columns-requires-clause-as_long

@@ -1,7 +1,7 @@
 use Rattle.std.proofs.Common.{Vec, Global}
 use Rattle.std.proofs.lemmas.Result.{err_from_is_err_and}
 use Rattle.mx_parquet.specs.declared.row.FullRow.{FullRow}
-use Rattle.mx_parquet.proofs.RowsSay.{no_group, one_group_more, all_groups, only_groups, group_fault}
+use Rattle.mx_parquet.proofs.RowGroupsSay.{no_group, one_group_more, all_groups, only_groups, group_fault}
 use Rattle.mx_parquet.proofs.rows.rows_of.Goals as goal
 
 pub returns-in_err-group_rows-clause-err : goal.returns-in_err-group_rows-clause-err

@@ -1,5 +1,5 @@
 use Rattle.std.proofs.Common.{length}
-use Rattle.mx_parquet.proofs.RowsSay.{GroupsUpTo}
+use Rattle.mx_parquet.proofs.RowGroupsSay.{GroupsUpTo}
 use Rattle.mx_parquet.proofs.rows.rows_of.Given as goal
 
 abbrev pub invariant-loop-group : goal.invariant-loop-group

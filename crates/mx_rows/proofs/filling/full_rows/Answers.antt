@@ -9,9 +9,9 @@ use Rattle.mx_rows.proofs.filling.full_rows.Goals as goal
 
 pub loop-number-preserved : goal.loop-number-preserved
 loop-number-preserved c = (
-  All-same HasTexts c.push.new.self.items (c.loop-number.full.items ++ c.in_ok-full_row.field-0 ∷ []) c.in_ok-push.ensures.items
-      (All-push HasTexts c.loop-number.full.items c.in_ok-full_row.field-0 c.loop-number.invariant.0 c.in_ok-full_row.ensures.texts),
-  rows_more c.args.schema.now (record { at = c.args.place.now.at; number = c.args.place.now.number; partition = c.args.place.now.partition.now; name = c.args.place.now.name.now }) c.args.rows.now c.loop-number.number c.index-rows-number.result c.loop-number.full.items c.push.new.self.items c.in_ok-full_row.field-0 c.loop-number-test.true c.index-rows-number.is c.loop-number.invariant.1 c.in_ok-full_row.ensures.row c.in_ok-push.ensures.items,
+  All-same HasTexts c.push.new.self.items (c.loop-number.full.items ++ c.in_ok-row.row ∷ []) c.in_ok-push.ensures.items
+      (All-push HasTexts c.loop-number.full.items c.in_ok-row.row c.loop-number.invariant.0 c.in_ok-row.ensures.texts),
+  rows_more c.args.schema.now (record { at = c.args.place.now.at; number = c.args.place.now.number; partition = c.args.place.now.partition.now; name = c.args.place.now.name.now }) c.args.rows.now c.loop-number.number c.index-rows-number.result c.loop-number.full.items c.push.new.self.items c.in_ok-row.row c.loop-number-test.true c.index-rows-number.is c.loop-number.invariant.1 c.in_ok-row.ensures.row c.in_ok-push.ensures.items,
 )
 
 pub returns-clause-fit : goal.returns-clause-fit

@@ -3,7 +3,7 @@ use Rattle.std.specs.Prelude.{codes}
 use Rattle.std.specs.Cmp.Lexicographic.{same_text}
 use lib.Pointwise.{pointwise}
 use Rattle.mx_base.specs.declared.object_name.ObjectName.{ObjectName}
-use Rattle.mx_base.proofs.ObjectLemmas.{prefixed, outside, config_at, config_only, timeline_only, metadata_only, shard_only}
+use Rattle.mx_base.proofs.ObjectReadings.{prefixed, outside, config_at, config_only, timeline_only, metadata_only, shard_only}
 use Rattle.mx_base.proofs.object_name.ObjectName.of.Goals as goal
 
 pub returns-in_err-name-clause-only : goal.returns-in_err-name-clause-only

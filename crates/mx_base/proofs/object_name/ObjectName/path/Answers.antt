@@ -1,7 +1,7 @@
 use Rattle.std.proofs.Common.{ℕ, List, IfOk, sym, ap, ◌∙◌, subst, ◌≡◌}
 use Rattle.mx_base.specs.Names.{IsPath}
 use Rattle.mx_base.specs.Objects.{object_path}
-use Rattle.mx_base.proofs.ObjectLemmas.{IsPath-object_path, timeline_at, metadata_at, base_at, log_at}
+use Rattle.mx_base.proofs.ObjectPaths.{IsPath-object_path, timeline_at, metadata_at, base_at, log_at}
 use Rattle.mx_base.proofs.object_name.ObjectName.path.Goals as goal
 
 pub joined-requires : goal.joined-requires

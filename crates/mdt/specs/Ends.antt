@@ -4,7 +4,8 @@ use Rattle.mx_schema.specs.declared.column.Column.{Column}
 use Rattle.mx_store.specs.declared.change.Change.{Change}
 use Rattle.mx_store.specs.Objects.{objects_of}
 use Rattle.mx_store.specs.Streams.{added}
-use Rattle.mx_lines.specs.Lines.{lines_of}
+use Rattle.mx_lines.specs.Ahead.{CountsBytes}
+use Rattle.mx_lines.specs.Lines.{LinesAreCut, lines_of}
 use Rattle.mx_world.specs.State.{Standing}
 use Rattle.mx_open.specs.Init.{Inits, IsNewTable}
 use Rattle.mx_open.specs.declared.error.InitError.{InitError}
@@ -121,6 +122,10 @@ CarriesOutInit words before after status =
 abbrev pub AnswersEachLine : Option (List ℕ) → Option (List ℕ) → List Answered → Type 0
 AnswersEachLine input left answers =
     IfSome input (λ (bytes : List ℕ). (length bytes < 2 ^ 40) × (length answers ≡ length (lines_of bytes))) × IfSome left (λ (bytes : List ℕ). bytes ≡ [])
+
+-- exactly 2^40 bytes were read, and the lines without an answer are those of a piece that was read and of what is left
+abbrev pub ReadsTooMuch : Option (List ℕ) → Option (List ℕ) → List Answered → Type 0
+ReadsTooMuch input left answers = CountsBytes 0 input (2 ^ 40) left × LinesAreCut input (length answers) left
 
 -- the replies of the answers were written, or a front of them where the sink failed
 abbrev pub WritesReplies : Option (List ℕ) → Option (List ℕ) → Status → List Answered → Type 0

@@ -1,12 +1,11 @@
-ghost use Rattle.std.specs.Prelude.{◌≡◌, ◌≢◌, ◌<◌, ◌^◌, []};
+ghost use Rattle.std.specs.Prelude.{◌≡◌, ◌≢◌, ◌<◌, []};
 ghost use Rattle.mx_store.specs.Calls.{Rose};
 ghost use Rattle.mx_store.specs.Journal.{Begins};
-ghost use Rattle.mx_lines.specs.Ahead.{CountsBytes};
 ghost use Rattle.mx_world.specs.State.{StaysValid};
 ghost use Rattle.mx_hub.specs.History.{moment};
 ghost use Rattle.mdt.specs.Words.{IsCommand};
 ghost use Rattle.mdt.specs.declared.words.Command.TheVariants.{Serve};
-ghost use Rattle.mdt.specs.Ends.{AnswersEachLine, AnswersLines, CarriesOutInit, IsEarly, MakesTable, Serves, TellsWords, WritesReplies};
+ghost use Rattle.mdt.specs.Ends.{AnswersEachLine, AnswersLines, CarriesOutInit, IsEarly, MakesTable, ReadsTooMuch, Serves, TellsWords, WritesReplies};
 
 use crate::status::{Status, ending_status, init_status, read_status};
 use crate::words::{Command, command_of};
@@ -50,7 +49,7 @@ pub fn command<S: Store, I: Source, O: Sink, N: Named>(
     ensures early { IsEarly result.status → (I.left source.new ≡ I.left source.old) × (result.answers ≡ []) }
     ensures to_end { IsCommand words.now Serve → result.status ≡ Status.Done → AnswersEachLine (I.left source.old) (I.left source.new) result.answers }
     ensures written { WritesReplies (O.written sink.old) (O.written sink.new) result.status result.answers }
-    ensures too_long { result.status ≡ Status.TooLong → CountsBytes 0 (I.left source.old) (2 ^ 40) (I.left source.new) }
+    ensures too_long { result.status ≡ Status.TooLong → ReadsTooMuch (I.left source.old) (I.left source.new) result.answers }
     ensures source_fault { result.status ≡ Status.SourceFault → Rose (I.faults source.old) (I.faults source.new) }
     ensures sink_fault { result.status ≡ Status.SinkFault → Rose (O.faults sink.old) (O.faults sink.new) }
     ensures store_fault { result.status ≡ Status.StoreFault → Rose N.count (S.faults result.store) }
@@ -107,7 +106,7 @@ fn serve_table<S: Store, I: Source, O: Sink, N: Named>(
     ensures early { IsEarly result.status → (I.left source.new ≡ I.left source.old) × (result.answers ≡ []) }
     ensures to_end { result.status ≡ Status.Done → AnswersEachLine (I.left source.old) (I.left source.new) result.answers }
     ensures written { WritesReplies (O.written sink.old) (O.written sink.new) result.status result.answers }
-    ensures too_long { result.status ≡ Status.TooLong → CountsBytes 0 (I.left source.old) (2 ^ 40) (I.left source.new) }
+    ensures too_long { result.status ≡ Status.TooLong → ReadsTooMuch (I.left source.old) (I.left source.new) result.answers }
     ensures source_fault { result.status ≡ Status.SourceFault → Rose (I.faults source.old) (I.faults source.new) }
     ensures sink_fault { result.status ≡ Status.SinkFault → Rose (O.faults sink.old) (O.faults sink.new) }
     ensures store_fault { result.status ≡ Status.StoreFault → Rose N.count (S.faults result.store) }
@@ -132,7 +131,7 @@ fn serve_opened<S: Store, I: Source, O: Sink, N: Named>(
     ensures answers { AnswersLines N.opening (moment S.journal S.faults table) (I.left source.old) (S.journal result.store) (S.faults result.store) result.status result.answers }
     ensures to_end { result.status ≡ Status.Done → AnswersEachLine (I.left source.old) (I.left source.new) result.answers }
     ensures written { WritesReplies (O.written sink.old) (O.written sink.new) result.status result.answers }
-    ensures too_long { result.status ≡ Status.TooLong → CountsBytes 0 (I.left source.old) (2 ^ 40) (I.left source.new) }
+    ensures too_long { result.status ≡ Status.TooLong → ReadsTooMuch (I.left source.old) (I.left source.new) result.answers }
     ensures source_fault { result.status ≡ Status.SourceFault → Rose (I.faults source.old) (I.faults source.new) }
     ensures sink_fault { result.status ≡ Status.SinkFault → Rose (O.faults sink.old) (O.faults sink.new) }
 {

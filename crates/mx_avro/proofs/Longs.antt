@@ -29,7 +29,7 @@ unread_is d e h = cc
 abbrev failed : AvroError → Result (ℕ × ℕ) AvroError
 failed e = Err e
 
-signed-zigzag : (n : ℤ) → signed (zigzag n) ≡ n
+pub signed-zigzag : (n : ℤ) → signed (zigzag n) ≡ n
 signed-zigzag (pos n) =
     let even : eqb (2 * n % 2) 0 ≡ true = grind (arith, nat_tests) in
     let half : 2 * n / 2 ≡ n = omega arith in
@@ -39,7 +39,7 @@ signed-zigzag (negsuc n) =
     let half : (2 * n + 1) / 2 ≡ n = omega arith in
     rw (odd, half) refl
 
-zigzag-signed : (n : ℕ) → zigzag (signed n) ≡ n
+pub zigzag-signed : (n : ℕ) → zigzag (signed n) ≡ n
 zigzag-signed n = elim (cases_eq (n % 2) 0) [
   | inl even ↦ let test : eqb (n % 2) 0 ≡ true = grind (arith, nat_tests) in rw test (omega arith)
   | inr odd ↦ let test : eqb (n % 2) 0 ≡ false = grind (arith, nat_tests) in rw test (omega arith)

@@ -1,11 +1,11 @@
 -- What the grammars of names say of their bytes, and that a table's names are in them.
 use Rattle.std.proofs.Common.{◌≡◌, ◌≢◌, ℕ, zero, suc, ◌+◌, ◌/◌, ◌%◌, ◌<◌, ◌≤◌, Bool, true, false, List, [], ◌∷◌, ◌++◌, length, get_or, refl, sym, ◌∙◌, ap, subst, arith, length-append, All, Option, Some, None}
-use Rattle.std.specs.Prelude.{codes, ◌==◌, ◌&&◌, not, nat_le, nat_lt, if◌then◌else◌, slice_index}
+use Rattle.std.specs.Prelude.{codes, ◌==◌, not, nat_le, nat_lt, if◌then◌else◌, slice_index}
 use Rattle.std.specs.List.{list_all, slice_split}
 use Rattle.std.specs.Char.{is_ascii_alphanumeric}
 use Rattle.std.specs.Option.{option_map_or}
 use Rattle.std.specs.Str.{IsAscii, bytes_eq}
-use Rattle.std.proofs.lemmas.Bool.{false_from_ne_true}
+use Rattle.std.proofs.lemmas.Bool.{false_from_ne_true, and_from, and_parts, lt-ltb, le-leb, ltb-true, leb-true}
 use Rattle.std.proofs.lemmas.Bool.Decides.{nat_tests, Decides-eqb}
 use Rattle.std.proofs.lemmas.List.Elements.{All-weaker}
 use Rattle.std.proofs.lemmas.List.Folds.{list_all-append}
@@ -77,27 +77,15 @@ named_no_slash byte named = false_from_ne_true (byte == 47) (λ same. absurd (cc
 pub no_slash : (text : List ℕ) → list_all is_name_byte text ≡ true → All (λ b. (b == 47) ≡ false) text
 no_slash text named = All-weaker (λ b. is_name_byte b ≡ true) (λ b. (b == 47) ≡ false) named_no_slash text (AllPass-from_list_all is_name_byte text named)
 
-pub both : (p q : Bool) → p ≡ true → q ≡ true → (p && q) ≡ true
-both true q here there = there
-both false q here there = absurd (cc here)
-
-first_of_both : (p q : Bool) → (p && q) ≡ true → p ≡ true
-first_of_both true q is = refl
-first_of_both false q is = is
-
-second_of_both : (p q : Bool) → (p && q) ≡ true → q ≡ true
-second_of_both true q is = is
-second_of_both false q is = absurd (cc is)
-
 pub named-append : (a b : List ℕ) → list_all is_name_byte a ≡ true → list_all is_name_byte b ≡ true → list_all is_name_byte (a ++ b) ≡ true
-named-append a b here there = list_all-append is_name_byte a b ∙ both (list_all is_name_byte a) (list_all is_name_byte b) here there
+named-append a b here there = list_all-append is_name_byte a b ∙ and_from (list_all is_name_byte a) (list_all is_name_byte b) here there
 
 digit_named : (d : ℕ) → d < 10 → is_name_byte (48 + d) ≡ true
 digit_named d small = grind (arith, nat_tests)
 
 pub digits_named : (k n : ℕ) → list_all is_name_byte (digits k n) ≡ true
 digits_named zero n = refl
-digits_named (suc k) n = named-append (digits k (n / 10)) ((48 + n % 10) ∷ []) (digits_named k (n / 10)) (both (is_name_byte (48 + n % 10)) true (digit_named (n % 10) (omega arith)) refl)
+digits_named (suc k) n = named-append (digits k (n / 10)) ((48 + n % 10) ∷ []) (digits_named k (n / 10)) (and_from (is_name_byte (48 + n % 10)) true (digit_named (n % 10) (omega arith)) refl)
 
 pub named-instant_text : (t : ℕ) → list_all is_name_byte (instant_text t) ≡ true
 unfolding instant_text
@@ -115,37 +103,28 @@ IsAscii-file_id text is = IsAscii-named text (named-file_id text is)
 
 -- ---- segments
 
-pub le_true : (n m : ℕ) → n ≤ m → nat_le n m ≡ true
-le_true n m h = grind (arith, nat_tests)
-
-lt_true : (n m : ℕ) → n < m → nat_lt n m ≡ true
-lt_true n m h = grind (arith, nat_tests)
-
-le_from_true : (n m : ℕ) → nat_le n m ≡ true → n ≤ m
-le_from_true n m h = grind (arith, nat_tests)
-
 differs : (a b : List ℕ) → a ≢ b → not (bytes_eq a b) ≡ true
 differs a b apart = ap not (false_from_ne_true (bytes_eq a b) (λ same. apart ((bytes_eq-Decides a b).0 same)))
 
 pub long_segment : (text : List ℕ) → 2 < length text → length text ≤ 255 → list_all is_name_byte text ≡ true → is_segment text ≡ true
 unfolding is_segment
 long_segment text long short named =
-    both (nat_lt 0 (length text)) _ (lt_true 0 (length text) (omega arith))
-    (both (nat_le (length text) 255) _ (le_true (length text) 255 short)
-    (both (list_all is_name_byte text) _ named
-    (both (not (bytes_eq text (codes "."))) _ (differs text (codes ".") (λ same. absurd (omega (arith, ap length same))))
+    and_from (nat_lt 0 (length text)) _ (lt-ltb 0 (length text) (omega arith))
+    (and_from (nat_le (length text) 255) _ (le-leb (length text) 255 short)
+    (and_from (list_all is_name_byte text) _ named
+    (and_from (not (bytes_eq text (codes "."))) _ (differs text (codes ".") (λ same. absurd (omega (arith, ap length same))))
     (differs text (codes "..") (λ same. absurd (omega (arith, ap length same)))))))
 
 -- the segments of a text without `/`
 pub last_segment : (text : List ℕ) → list_all is_name_byte text ≡ true → is_segment text ≡ true → list_all is_segment (slice_split (λ byte. byte == 47) text) ≡ true
-last_segment text named is = ap (list_all is_segment) (slice_split_none (λ byte. byte == 47) text (no_slash text named)) ∙ both (is_segment text) true is refl
+last_segment text named is = ap (list_all is_segment) (slice_split_none (λ byte. byte == 47) text (no_slash text named)) ∙ and_from (is_segment text) true is refl
 
 pub IsPath-commit_path : (t : ℕ) → IsPath (commit_path t)
 unfolding commit_path is_path is_segment
 IsPath-commit_path t =
     let named : list_all is_name_byte (instant_text t ++ codes ".commit") ≡ true = named-append (instant_text t) (codes ".commit") (named-instant_text t) refl in
     let len : length (instant_text t ++ codes ".commit") ≡ 24 = omega (arith, length-append (instant_text t) (codes ".commit"), length-instant t) in
-    both (nat_le (length (codes ".hoodie/" ++ (instant_text t ++ codes ".commit"))) 1024) _ (le_true _ 1024 (omega (arith, len)))
+    and_from (nat_le (length (codes ".hoodie/" ++ (instant_text t ++ codes ".commit"))) 1024) _ (le-leb _ 1024 (omega (arith, len)))
     (last_segment (instant_text t ++ codes ".commit") named (long_segment (instant_text t ++ codes ".commit") (omega (arith, len)) (omega (arith, len)) named))
 
 pub IsPath-files_log_path : (t : ℕ) → IsPath (files_log_path t)
@@ -154,7 +133,7 @@ IsPath-files_log_path t =
     let end : List ℕ = instant_text t ++ codes ".log" in
     let named : list_all is_name_byte (codes "files-0000_" ++ end) ≡ true = named-append (codes "files-0000_") end refl (named-append (instant_text t) (codes ".log") (named-instant_text t) refl) in
     let len : length end ≡ 21 = omega (arith, length-append (instant_text t) (codes ".log"), length-instant t) in
-    both (nat_le (length (codes ".hoodie/metadata/files/files-0000_" ++ end)) 1024) _ (le_true _ 1024 (omega (arith, len)))
+    and_from (nat_le (length (codes ".hoodie/metadata/files/files-0000_" ++ end)) 1024) _ (le-leb _ 1024 (omega (arith, len)))
     (last_segment (codes "files-0000_" ++ end) named (long_segment (codes "files-0000_" ++ end) (omega (arith, len)) (omega (arith, len)) named))
 
 -- ---- partitions
@@ -169,15 +148,14 @@ pub record IsPartitionText (text : List ℕ) : Type 0 where
 pub IsPartition-facts : (text : List ℕ) → IsPartition text → IsPartitionText text
 unfolding is_partition
 IsPartition-facts text is =
-    let some = first_of_both (nat_lt 0 (length text)) _ is in
-    let rest = second_of_both (nat_lt 0 (length text)) _ is in
-    let most = first_of_both (nat_le (length text) 64) _ rest in
-    let more = second_of_both (nat_le (length text) 64) _ rest in
+    let some = and_parts (nat_lt 0 (length text)) _ is in
+    let most = and_parts (nat_le (length text) 64) _ some.1 in
+    let first = and_parts (is_ascii_alphanumeric (slice_index text 0)) (list_all is_name_byte text) most.1 in
     record {
-      some = le_from_true 1 (length text) some;
-      most = le_from_true (length text) 64 most;
-      first = first_of_both (is_ascii_alphanumeric (slice_index text 0)) _ more;
-      bytes = second_of_both (is_ascii_alphanumeric (slice_index text 0)) (list_all is_name_byte text) more;
+      some = ltb-true 0 (length text) some.0;
+      most = leb-true (length text) 64 most.0;
+      first = first.0;
+      bytes = first.1;
     }
 
 -- a partition does not begin with a dot
@@ -191,10 +169,10 @@ IsPartition-no_dot text is = no_dot text (IsPartition-facts text is)
 partition_segment : (text : List ℕ) → IsPartitionText text → is_segment text ≡ true
 unfolding is_segment
 partition_segment text facts =
-    both (nat_lt 0 (length text)) _ (lt_true 0 (length text) facts.some)
-    (both (nat_le (length text) 255) _ (le_true (length text) 255 (omega (arith, facts.most)))
-    (both (list_all is_name_byte text) _ facts.bytes
-    (both (not (bytes_eq text (codes "."))) _ (differs text (codes ".") (λ same. absurd (cc (subst (λ (l : List ℕ). is_ascii_alphanumeric (slice_index l 0) ≡ true) same facts.first))))
+    and_from (nat_lt 0 (length text)) _ (lt-ltb 0 (length text) facts.some)
+    (and_from (nat_le (length text) 255) _ (le-leb (length text) 255 (omega (arith, facts.most)))
+    (and_from (list_all is_name_byte text) _ facts.bytes
+    (and_from (not (bytes_eq text (codes "."))) _ (differs text (codes ".") (λ same. absurd (cc (subst (λ (l : List ℕ). is_ascii_alphanumeric (slice_index l 0) ≡ true) same facts.first))))
     (differs text (codes "..") (λ same. absurd (cc (subst (λ (l : List ℕ). is_ascii_alphanumeric (slice_index l 0) ≡ true) same facts.first)))))))
 
 pub named-data_file_name : (file : List ℕ) (t : ℕ) → IsFileId file → list_all is_name_byte (data_file_name file t) ≡ true
@@ -215,6 +193,6 @@ IsPath-data_path partition file t is_partition is_id =
     let name : List ℕ = data_file_name file t in
     let named : list_all is_name_byte name ≡ true = named-data_file_name file t is_id in
     let len : length name ≡ 68 = length-data_file_name file t is_id in
-    both (nat_le (length (partition ++ 47 ∷ name)) 1024) _ (le_true _ 1024 (omega (arith, length-append partition (47 ∷ name), len, facts.most)))
+    and_from (nat_le (length (partition ++ 47 ∷ name)) 1024) _ (le-leb _ 1024 (omega (arith, length-append partition (47 ∷ name), len, facts.most)))
     (ap (list_all is_segment) (slice_split_at (λ byte. byte == 47) partition 47 name (no_slash partition facts.bytes) refl)
-    ∙ both (is_segment partition) _ (partition_segment partition facts) (last_segment name named (long_segment name (omega (arith, len)) (omega (arith, len)) named)))
+    ∙ and_from (is_segment partition) _ (partition_segment partition facts) (last_segment name named (long_segment name (omega (arith, len)) (omega (arith, len)) named)))

@@ -18,7 +18,8 @@ use Rattle.mx_base.specs.declared.object_name.BaseKind.{BaseKind}
 use Rattle.mx_base.specs.declared.object_name.BaseKind.TheVariants as base
 use Rattle.mx_base.specs.declared.object_name.ObjectName.{ObjectName}
 use Rattle.mx_base.specs.declared.object_name.ObjectName.TheVariants.{Config, Timeline, Metadata, Base, Log}
-use Rattle.mx_base.proofs.NameLemmas.{both, named-append, named-instant_text, digits_named, long_segment, last_segment, le_true}
+use Rattle.std.proofs.lemmas.Bool.{and_from, le-leb}
+use Rattle.mx_base.proofs.NameLemmas.{named-append, named-instant_text, digits_named, long_segment, last_segment}
 use Rattle.mx_base.proofs.Places.{length-instant}
 
 -- an ending that a name may have
@@ -69,13 +70,13 @@ instant_segment at ending is =
 IsPath-timeline : (at : ℕ) (ending : List ℕ) → IsEnding ending → IsPath (codes ".hoodie/" ++ (instant_text at ++ ending))
 unfolding is_path is_segment
 IsPath-timeline at ending is =
-    both (nat_le (length (codes ".hoodie/" ++ (instant_text at ++ ending))) 1024) _ (le_true _ 1024 (omega (arith, length-instant_ending at ending is)))
+    and_from (nat_le (length (codes ".hoodie/" ++ (instant_text at ++ ending))) 1024) _ (le-leb _ 1024 (omega (arith, length-instant_ending at ending is)))
     (last_segment (instant_text at ++ ending) (instant_named at ending is) (instant_segment at ending is))
 
 IsPath-metadata : (at : ℕ) (ending : List ℕ) → IsEnding ending → IsPath (codes ".hoodie/metadata/.hoodie/" ++ (instant_text at ++ ending))
 unfolding is_path is_segment
 IsPath-metadata at ending is =
-    both (nat_le (length (codes ".hoodie/metadata/.hoodie/" ++ (instant_text at ++ ending))) 1024) _ (le_true _ 1024 (omega (arith, length-instant_ending at ending is)))
+    and_from (nat_le (length (codes ".hoodie/metadata/.hoodie/" ++ (instant_text at ++ ending))) 1024) _ (le-leb _ 1024 (omega (arith, length-instant_ending at ending is)))
     (last_segment (instant_text at ++ ending) (instant_named at ending is) (instant_segment at ending is))
 
 -- the last segment of a path of a shard
@@ -111,13 +112,13 @@ shard_segments part shard at ending is =
 IsPath-shard : (part : Part) (shard at : ℕ) (ending : List ℕ) → IsEnding ending → IsPath (shard_front part shard ++ (instant_text at ++ ending))
 unfolding is_path is_segment shard_name
 IsPath-shard Files shard at ending is =
-    both (nat_le (length (shard_front Files shard ++ (instant_text at ++ ending))) 1024) _ (le_true _ 1024 (omega (arith, length-instant_ending at ending is))) (shard_segments Files shard at ending is)
+    and_from (nat_le (length (shard_front Files shard ++ (instant_text at ++ ending))) 1024) _ (le-leb _ 1024 (omega (arith, length-instant_ending at ending is))) (shard_segments Files shard at ending is)
 IsPath-shard ColumnStats shard at ending is =
-    both (nat_le (length (shard_front ColumnStats shard ++ (instant_text at ++ ending))) 1024) _ (le_true _ 1024 (omega (arith, length-instant_ending at ending is))) (shard_segments ColumnStats shard at ending is)
+    and_from (nat_le (length (shard_front ColumnStats shard ++ (instant_text at ++ ending))) 1024) _ (le-leb _ 1024 (omega (arith, length-instant_ending at ending is))) (shard_segments ColumnStats shard at ending is)
 IsPath-shard BloomFilters shard at ending is =
-    both (nat_le (length (shard_front BloomFilters shard ++ (instant_text at ++ ending))) 1024) _ (le_true _ 1024 (omega (arith, length-instant_ending at ending is))) (shard_segments BloomFilters shard at ending is)
+    and_from (nat_le (length (shard_front BloomFilters shard ++ (instant_text at ++ ending))) 1024) _ (le-leb _ 1024 (omega (arith, length-instant_ending at ending is))) (shard_segments BloomFilters shard at ending is)
 IsPath-shard RecordIndex shard at ending is =
-    both (nat_le (length (shard_front RecordIndex shard ++ (instant_text at ++ ending))) 1024) _ (le_true _ 1024 (omega (arith, length-instant_ending at ending is))) (shard_segments RecordIndex shard at ending is)
+    and_from (nat_le (length (shard_front RecordIndex shard ++ (instant_text at ++ ending))) 1024) _ (le-leb _ 1024 (omega (arith, length-instant_ending at ending is))) (shard_segments RecordIndex shard at ending is)
 
 -- each object's path is a path
 pub IsPath-object_path : (name : ObjectName) → IsPath (object_path name)

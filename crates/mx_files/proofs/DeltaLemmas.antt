@@ -7,7 +7,8 @@ use Rattle.mx_payload.specs.declared.payload.Payload.TheVariants.{Files}
 use Rattle.mx_merge.specs.Shown.{SizeMap, words_with, shown}
 use Rattle.mx_files.specs.Files.{FilesMap, all_partitions, named_partitions, partition_list, files_map, expected_on}
 use Rattle.mx_files.specs.Delta.{said_in, word_of, named_files, delta_on, AreOf, files_after}
-use Rattle.mx_files.proofs.MapLemmas.{R, entries-empty, keys-empty}
+use Rattle.mx_lists.proofs.TreeLemmas.{R, entries-empty}
+use Rattle.mx_files.proofs.MapLemmas.{keys-empty}
 use Rattle.mx_files.proofs.WordLemmas.{shows_files}
 use Rattle.mx_files.proofs.PartitionLemmas.{shows_partitions}
 

@@ -21,7 +21,9 @@ use Rattle.mx_merge.specs.Merged.{read_payload, payload_of, values_on_key, paylo
 use Rattle.mx_files.specs.Files.{all_partitions, name_of}
 use Rattle.mx_files.specs.Delta.{WordMap, delta_on, IsDelta, AreShards}
 use Rattle.mx_files.specs.Said.{SaidMap, said_on, with_said, with_new_file, with_gone_file, said_of, payload_of_key, entry_of}
-use Rattle.mx_files.proofs.MapLemmas.{R, tied, truth, first, second, same_key, find_later, contains-insert}
+use Rattle.mx_lists.proofs.Plain.{truth, first, second}
+use Rattle.mx_lists.proofs.TreeLemmas.{R, tied, same_key, find_later}
+use Rattle.mx_files.proofs.MapLemmas.{contains-insert}
 use Rattle.mx_files.proofs.SaidLemmas.{AreParted, says_delta}
 use lib.Dec.{T}
 

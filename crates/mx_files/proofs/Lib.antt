@@ -1,5 +1,4 @@
 pub mod MapLemmas
-pub mod TreeLemmas
 pub mod WordLemmas
 pub mod PartitionLemmas
 pub mod DeltaLemmas

@@ -1,62 +1,14 @@
 -- Finite maps from texts.
-use Rattle.std.proofs.Common.{◌≡◌, ◌≢◌, ℕ, arith, length, Bool, true, false, cond, ◌&&◌, ◌||◌, List, [], ◌∷◌, map, Option, Some, None, Ordering, Less, Equal, Greater, refl, sym, ◌∙◌, ap, subst}
+use Rattle.std.proofs.Common.{◌≡◌, ◌≢◌, ℕ, Bool, true, false, cond, ◌&&◌, ◌||◌, List, [], ◌∷◌, map, Option, Some, None, refl, sym, ◌∙◌, ap, subst}
 use Rattle.std.specs.Prelude.{option_map, is_some, unwrap_or, bytes_eq}
-use Rattle.std.specs.Ordering.{nat_cmp, eq_by_cmp, is_lt, is_eq}
-use Rattle.std.specs.Cmp.{eq_by_cmp_equiv}
-use Rattle.std.specs.Cmp.Lexicographic.{slice_cmp, nat_list_cmp_total, texts_ties}
+use Rattle.std.specs.Ordering.{eq_by_cmp, is_lt}
+use Rattle.std.specs.Cmp.Lexicographic.{nat_list_cmp_total}
 use Rattle.std.specs.FinMap as finmap
 use Rattle.std.specs.FinMap.Entries.{below_all, is_sorted, same_entries}
+use Rattle.std.proofs.lemmas.Map.Lookups.{exact_bytes}
 use Rattle.std.proofs.lemmas.Slice.Eq.{bytes_eq-Decides}
+use Rattle.mx_lists.proofs.TreeLemmas.{R, tied, entries-empty}
 use lib.Dec.{T}
-
-abbrev pub R : List ℕ → List ℕ → Ordering
-R = slice_cmp nat_cmp
-
-pub only_equal : finmap.IsAntisymmetric R
-only_equal = finmap.slice_cmp-IsAntisymmetric finmap.nat_cmp-IsAntisymmetric
-
-pub turned : (a b : List ℕ) → eq_by_cmp R a b ≡ eq_by_cmp R b a
-turned a b = (eq_by_cmp_equiv nat_list_cmp_total).symm a b
-
-pub tied : (key q : List ℕ) → eq_by_cmp R q key ≡ bytes_eq key q
-tied key q = turned q key ∙ sym (texts_ties key q)
-
-pub first : (a b : Bool) → T (a && b) → T a
-first true b h = tt
-first false b h = absurd h
-
-pub second : (a b : Bool) → T (a && b) → T b
-second true b h = h
-second false b h = absurd h
-
-pub truth : (b : Bool) → T b → b ≡ true
-truth true h = refl
-truth false h = absurd h
-
-less_only : (o : Ordering) → T (is_lt o) → is_eq o ≡ false
-less_only Less h = refl
-less_only Equal h = absurd h
-less_only Greater h = absurd h
-
-equal : (o : Ordering) → is_eq o ≡ true → o ≡ Equal
-equal Less h = absurd (cc h)
-equal Equal h = refl
-equal Greater h = absurd (cc h)
-
-pub same_key : (q key : List ℕ) → eq_by_cmp R q key ≡ true → q ≡ key
-same_key q key is = only_equal q key (equal (R q key) is)
-
-module _ {X : Type 0} where
-  pub same_map : (m n : finmap.FinMap R X) → ((q : List ℕ) → finmap.get m q ≡ finmap.get n q) → m ≡ n
-  same_map m n is = finmap.same_map nat_list_cmp_total only_equal m n is
-
-  pub find_below : (key : List ℕ) (es : List (List ℕ × X)) → T (below_all R key es) → finmap.find R key es ≡ None
-  find_below key [] h = refl
-  find_below key (e ∷ es) h = ap (λ (b : Bool). cond b (Some e.1) (finmap.find R key es)) (less_only (R key e.0) (first _ _ h)) ∙ find_below key es (second (is_lt (R key e.0)) _ h)
-
-  -- the key of the first entry is that of no other
-  pub find_later : (q : List ℕ) (e : List ℕ × X) (es : List (List ℕ × X)) → T (is_sorted R (e ∷ es)) → eq_by_cmp R q e.0 ≡ true → finmap.find R q es ≡ None
-  find_later q e es sorted here = ap (λ (k : List ℕ). finmap.find R k es) (same_key q e.0 here) ∙ find_below e.0 es (first _ _ sorted)
 
 module _ {X Y : Type 0} (f : X → Y) where
   -- other values on the same keys
@@ -103,17 +55,10 @@ pub same_keys : {X Y : Type 0} (m : finmap.FinMap R X) (n : finmap.FinMap R Y) �
 same_keys {X} {Y} m n same =
     let found : (Z : Type 0) (l : finmap.FinMap R Z) (q : List ℕ) → finmap.find R q (revalued (untold {X = Z}) (finmap.entries l)) ≡ is_told (finmap.contains_key l q) =
     λ (Z : Type 0) (l : finmap.FinMap R Z) (q : List ℕ). find-revalued (untold {X = Z}) q (finmap.entries l) ∙ ap (λ (o : Option Z). option_map (untold {X = Z}) o) (sym (finmap.get-entries l q)) ∙ told (finmap.get l q) in
-    let alike = same_entries R nat_list_cmp_total only_equal (revalued (untold {X = X}) (finmap.entries m)) (revalued (untold {X = Y}) (finmap.entries n))
+    let alike = same_entries R nat_list_cmp_total exact_bytes (revalued (untold {X = X}) (finmap.entries m)) (revalued (untold {X = Y}) (finmap.entries n))
     (sorted-revalued (untold {X = X}) m) (sorted-revalued (untold {X = Y}) n)
     (λ q. found X m q ∙ ap is_told (same q) ∙ sym (found Y n q)) in
     sym (keys-revalued (untold {X = X}) (finmap.entries m)) ∙ ap (λ (es : List (List ℕ × ℕ)). map (λ (e : List ℕ × ℕ). e.0) es) alike ∙ keys-revalued (untold {X = Y}) (finmap.entries n)
-
-pub nothing : {A : Type 0} (xs : List A) → length xs ≡ 0 → xs ≡ []
-nothing [] none = refl
-nothing (x ∷ xs) none = absurd (omega (arith, none))
-
-pub entries-empty : (X : Type 0) → finmap.entries (finmap.empty {X = X} {R = R}) ≡ []
-entries-empty X = nothing (finmap.entries (finmap.empty {X = X} {R = R})) (sym (finmap.len-entries (finmap.empty {X = X} {R = R})) ∙ finmap.len-empty R X)
 
 pub keys-empty : (X : Type 0) → finmap.keys (finmap.empty {X = X} {R = R}) ≡ []
 keys-empty X = ap (λ (es : List (List ℕ × X)). map (λ (e : List ℕ × X). e.0) es) (entries-empty X)

@@ -14,7 +14,8 @@ use Rattle.mx_payload.specs.Rules.{plain}
 use Rattle.mx_merge.specs.Shown.{SizeMap, sizes_left, shown}
 use Rattle.mx_files.specs.Files.{FilesMap, name_of, sizes_in, with_file, without_file, files_map, named_partitions, partition_list}
 use Rattle.mx_files.specs.Delta.{AreOf, files_after}
-use Rattle.mx_files.proofs.MapLemmas.{R, tied, same_keys, keys-empty, contains-insert}
+use Rattle.mx_lists.proofs.TreeLemmas.{R, tied}
+use Rattle.mx_files.proofs.MapLemmas.{same_keys, keys-empty, contains-insert}
 use Rattle.mx_files.proofs.WordLemmas.{sizes_left-append}
 
 pub or_false : (b : Bool) → b ≡ (b || false)

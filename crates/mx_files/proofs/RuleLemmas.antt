@@ -11,7 +11,9 @@ use Rattle.mx_payload.specs.declared.payload.NameWord.{NameWord}
 use Rattle.mx_payload.specs.Rules.{IsLong, IsText, IsWord, AreWords, RisesFrom, plain}
 use Rattle.mx_files.specs.Delta.{WordMap, word_of}
 use Rattle.mx_files.specs.Said.{AreLong}
-use Rattle.mx_files.proofs.MapLemmas.{R, first, second, truth, find_later, get-insert, revalued, sorted-revalued, keys-revalued}
+use Rattle.mx_lists.proofs.Plain.{first, second, truth}
+use Rattle.mx_lists.proofs.TreeLemmas.{R, find_later}
+use Rattle.mx_files.proofs.MapLemmas.{get-insert, revalued, sorted-revalued, keys-revalued}
 use lib.Dec.{T}
 
 abbrev IsFit : Option (Option ℕ) → Type 0

@@ -1,6 +1,8 @@
 -- What an action says on each key is its delta there.
 use Rattle.std.proofs.Common.{◌≡◌, ◌≢◌, ℕ, Bool, true, false, cond, ◌||◌, List, [], ◌∷◌, map, length, Option, Some, None, refl, sym, ◌∙◌, ap}
 use Rattle.std.specs.Prelude.{option_map, is_some, unwrap_or, bytes_eq, fold}
+use Rattle.std.specs.BTreeMap as tree
+use Rattle.std.specs.BTreeMap.{BTreeMap}
 use Rattle.std.specs.FinMap as finmap
 use Rattle.std.specs.List.{AllByRecursion}
 use Rattle.std.proofs.lemmas.Slice.Eq.{bytes_eq-Decides}
@@ -11,7 +13,8 @@ use Rattle.mx_payload.specs.declared.payload.Payload.TheVariants.{Partitions, Fi
 use Rattle.mx_files.specs.Files.{all_partitions, name_of, named_partitions, partition_list, files_map}
 use Rattle.mx_files.specs.Delta.{WordMap, with_new, with_gone, said_in, word_of, named_files, delta_on}
 use Rattle.mx_files.specs.Said.{SaidMap, with_said, with_new_file, with_gone_file, said_of, payload_of_key}
-use Rattle.mx_files.proofs.MapLemmas.{R, tied, turned, same_keys, entries-empty, get-changed, contains-insert, entries-insert}
+use Rattle.mx_lists.proofs.TreeLemmas.{R, tied, turned, get-tree, tree-insert, entries-empty}
+use Rattle.mx_files.proofs.MapLemmas.{same_keys, get-changed, contains-insert, entries-insert}
 use Rattle.mx_files.proofs.PartitionLemmas.{is_of, contains-files_map, or_false, moved}
 
 -- ---- words, where there is one
@@ -162,3 +165,14 @@ says_delta news gone parted parted_gone key = chosen (bytes_eq key all_partition
         ≡ cond b (partition_list (files_map news)) (named_files (map word_of (finmap.entries (said_in key news gone))))
     chosen true is = ap (λ (k : List ℕ). option_map name_list (finmap.get (said_of news gone) k)) ((bytes_eq-Decides key all_partitions).0 is) ∙ listed_key
     chosen false is = other_key (sym (tied all_partitions key) ∙ turned key all_partitions ∙ tied key all_partitions ∙ is)
+
+-- ---- the tree that holds what is said
+
+-- what is said on a key is written back with one more name
+pub with_said-tree : (m n : BTreeMap (List ℕ) WordMap) (said : SaidMap) → finmap.from_entries {R = R} m.entries ≡ said → (key name : List ℕ) (size : Option ℕ) (found : Option WordMap) (words : WordMap) →
+    found ≡ tree.get R m key → words ≡ finmap.insert (unwrap_or found finmap.empty) name size → tree.Updates R m n key (Some words) → finmap.from_entries {R = R} n.entries ≡ with_said said key name size
+with_said-tree m n said view_is key name size found words is grown updates =
+    tree-insert m n key words updates
+    ∙ ap (λ (w : WordMap). finmap.insert (finmap.from_entries m.entries) key w)
+    (grown ∙ ap (λ (o : Option WordMap). finmap.insert (unwrap_or o finmap.empty) name size) (is ∙ sym (get-tree m key)))
+    ∙ ap (λ (s : SaidMap). with_said s key name size) view_is

@@ -11,7 +11,9 @@ use Rattle.mx_payload.specs.declared.payload.Payload.TheVariants.{Files}
 use Rattle.mx_merge.specs.Shown.{SizeMap, with_word, sizes_left, words_with, shown}
 use Rattle.mx_files.specs.Files.{FilesMap, name_of, with_file, without_file}
 use Rattle.mx_files.specs.Delta.{WordMap, with_new, with_gone, said_in, word_of, named_files}
-use Rattle.mx_files.proofs.MapLemmas.{R, tied, second, same_map, find_later, get-insert, get-remove, get-changed, entries-insert, entries-empty, revalued, find-revalued, sorted-revalued}
+use Rattle.mx_lists.proofs.Plain.{second}
+use Rattle.mx_lists.proofs.TreeLemmas.{R, tied, same_map, find_later, entries-empty}
+use Rattle.mx_files.proofs.MapLemmas.{get-insert, get-remove, get-changed, entries-insert, revalued, find-revalued, sorted-revalued}
 use lib.Dec.{T}
 
 -- ---- words over sizes

@@ -3,9 +3,8 @@ use Rattle.std.proofs.Common.{◌≡◌, ◌≢◌, ⊎_elim, ℕ, ◌<◌, ◌^
 use Rattle.std.specs.Prelude.{nat_eq, nat_lt, option_and_then, option_map, unwrap_or}
 use Rattle.std.specs.FinMap as finmap
 use Rattle.std.specs.Option.{option_map_or}
-use Rattle.std.proofs.lemmas.Bool.{and_parts}
+use Rattle.std.proofs.lemmas.Bool.{and_parts, and_from}
 use Rattle.std.proofs.lemmas.Bool.Decides.{Decides-ltb, eqb_tells}
-use Rattle.mx_base.proofs.NameLemmas.{both}
 use Rattle.mx_base.proofs.PathLemmas.{IsCommitAt-commit_instant, commit_instant-commit_path}
 use Rattle.mx_base.specs.Objects.{IsObjectName, is_instant, object_path}
 use Rattle.mx_base.specs.Paths.{commit_path, commit_instant}
@@ -52,7 +51,7 @@ unfolding commit_path object_path
 commit_path-is at = refl
 
 small_test : (at : ℕ) → 0 < at → at < 10 ^ 17 → IsObjectName (commit_name at)
-small_test at positive small = both (nat_lt 0 at) (is_instant at) ((Decides-ltb 0 at).1 positive) ((Decides-ltb at (10 ^ 17)).1 small)
+small_test at positive small = and_from (nat_lt 0 at) (is_instant at) ((Decides-ltb 0 at).1 positive) ((Decides-ltb at (10 ^ 17)).1 small)
 
 -- where it is read off
 named_commit : (path : List ℕ) (at : ℕ) → commit_instant path ≡ Some at → IsObjectName (commit_name at) × (path ≡ object_path (commit_name at))

@@ -10,10 +10,12 @@ use Rattle.std.proofs.lemmas.List.Concat.{flat_map-cons}
 use Rattle.std.proofs.Math.Seq.{drop-append_seam, take-append_seam}
 use Rattle.mx_base.specs.declared.entry.Entry.{Entry}
 use Rattle.mx_hfile.specs.Encoding.{number, data_magic, rises, RiseFrom, HasKey, entry_bytes, body, block, blocks_bytes, Place, first_key, place_of}
-use Rattle.mx_hfile.specs.Decoding.{◌>>=◌, expected_in, is_same, is_key, entry_in, entries_in, body_in, block_in, placed, last_key, blocks_in}
+use Rattle.mx_lists.specs.Reading.{◌>>=◌}
+use Rattle.mx_hfile.specs.Decoding.{expected_in, is_same, is_key, entry_in, entries_in, body_in, block_in, placed, last_key, blocks_in}
 use Rattle.mx_hfile.specs.Division.{BeginInTime, IsBlock, AreBlocks}
 use Rattle.mx_hfile.specs.Seen.{Covers}
-use Rattle.mx_hfile.proofs.FieldLemmas.{IsBytes, IsBytes-take, IsBytes-drop, Took, Took-then, bind_ok, ok_is, expected_takes, expected_again, wide32, IsGoodEntry, entry_codec}
+use Rattle.mx_lists.proofs.Codecs.{IsBytes, IsBytes-take, IsBytes-drop, Took, Took-then, bind_ok, ok_is}
+use Rattle.mx_hfile.proofs.FieldLemmas.{expected_takes, expected_again, wide32, IsGoodEntry, entry_codec}
 use Rattle.mx_hfile.proofs.DividingLemmas.{entry-length, block-length, keys_split}
 use Rattle.mx_hfile.proofs.DivisionLemmas.{all, body-first}
 use Rattle.mx_hfile.proofs.OrderLemmas.{rises-some, rise-split, rise-join}

@@ -14,7 +14,8 @@ use Rattle.mx_hfile.specs.declared.error.HFileError.TheVariants as errors
 use Rattle.mx_hfile.specs.Encoding.{AreEntries, RiseFrom, HasKey, body, block, blocks_bytes, Place, place_of, index, trailer, blocks_of, file, encoding}
 use Rattle.mx_hfile.specs.Decoding.{is_key, is_length, placed, trailer_in, index_in, blocks_in, Trailer, file_in, HasCause, Decodes, IsOnly}
 use Rattle.mx_hfile.specs.Division.{IsFullBefore, AreBlocks}
-use Rattle.mx_hfile.proofs.FieldLemmas.{IsBytes, IsBytes-take, IsBytes-drop, bind_ok, ok_is, passed, IsGoodKey}
+use Rattle.mx_lists.proofs.Codecs.{IsBytes, IsBytes-take, IsBytes-drop, bind_ok, ok_is, passed}
+use Rattle.mx_hfile.proofs.FieldLemmas.{IsGoodKey}
 use Rattle.mx_hfile.proofs.PlaceLemmas.{AreGoodPlaces, covers, index-length, index_takes, index_again}
 use Rattle.mx_hfile.proofs.FileSteps.{index_bytes, file_in-data, counted_data}
 use Rattle.mx_hfile.proofs.DividingLemmas.{block-length, length-map, encoding-length, few_blocks, entry-length, keys_split}

@@ -2,12 +2,13 @@
 use Rattle.std.proofs.Common.{◌≡◌, ℕ, ◌-◌, ◌≤◌, Bool, true, cond, eqb, ltb, ◌||◌, List, [], length, take, drop, Result, Ok, Err, refl, ap, ◌∙◌}
 use Rattle.std.proofs.lemmas.Bool.{le-ltb}
 use Rattle.mx_base.specs.declared.entry.Entry.{Entry}
-use Rattle.mx_hfile.specs.declared.error.Fault.{Fault}
-use Rattle.mx_hfile.specs.declared.error.Fault.TheVariants as faults
+use Rattle.mx_lists.specs.declared.fault.Fault.{Fault}
+use Rattle.mx_lists.specs.declared.fault.Fault.TheVariants as faults
 use Rattle.mx_hfile.specs.declared.error.HFileError.{HFileError}
 use Rattle.mx_hfile.specs.declared.error.HFileError.TheVariants as errors
 use Rattle.mx_hfile.specs.Encoding.{Place}
-use Rattle.mx_hfile.specs.Decoding.{◌>>=◌, Fails, HasCause, Trailer, placed, trailer_in, index_in, blocks_in, file_in}
+use Rattle.mx_lists.specs.Reading.{◌>>=◌, Fails}
+use Rattle.mx_hfile.specs.Decoding.{HasCause, Trailer, placed, trailer_in, index_in, blocks_in, file_in}
 use Rattle.mx_hfile.specs.Seen.{placed_error}
 
 -- the rest of a file once the places of its blocks are known

@@ -8,10 +8,12 @@ use Rattle.std.proofs.Math.Seq.{drop-append_seam, take-append_seam}
 use Rattle.mx_base.specs.declared.entry.Entry.{Entry}
 use Rattle.mx_hfile.specs.declared.footer.Footer.{Footer}
 use Rattle.mx_hfile.specs.Encoding.{RiseFrom, HasKey, number, trailer_magic, blocks_bytes, place_of, index, trailer, blocks_of, encoding}
-use Rattle.mx_hfile.specs.Decoding.{◌>>=◌, expected_in, number_in, placed, index_in, Trailer}
+use Rattle.mx_lists.specs.Reading.{◌>>=◌}
+use Rattle.mx_hfile.specs.Decoding.{expected_in, number_in, placed, index_in, Trailer}
 use Rattle.mx_hfile.specs.Ranges.{offset_alone_in, index_len_in, footer_in, loaded_in}
 use Rattle.mx_hfile.specs.Found.{HaveFile, HasTrailer, footer_from, index_bytes, trailer_bytes, bytes_at, index_place, footer_of_file, places_of}
-use Rattle.mx_hfile.proofs.FieldLemmas.{IsBytes-drop, passing_again, wide32, wide64, number_codec, expected_again}
+use Rattle.mx_lists.proofs.Codecs.{IsBytes-drop}
+use Rattle.mx_hfile.proofs.FieldLemmas.{passing_again, wide32, wide64, number_codec, expected_again}
 use Rattle.mx_hfile.proofs.TrailerLemmas.{zeros, trailer-parts, trailer_takes}
 use Rattle.mx_hfile.proofs.DividingLemmas.{trailer-length, length-map, encoding-length, few_blocks}
 use Rattle.mx_hfile.proofs.DivisionLemmas.{all, blocks_of-divides}

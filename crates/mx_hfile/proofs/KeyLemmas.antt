@@ -1,11 +1,12 @@
 -- Keys in their order, prefixes, and the blocks that first keys tell apart.
-use Rattle.std.proofs.Common.{Ordering, Less, Equal, Greater, ◌≡◌, ℕ, zero, suc, ◌-◌, ◌^◌, ◌<◌, ◌≤◌, Bool, true, false, not, cond, eqb, ltb, ◌&&◌, ◌||◌, List, [], ◌∷◌, length, take, nat_eq, refl, sym, ap, ◌∙◌, arith, inl, inr}
+use Rattle.std.proofs.Common.{Ordering, Less, Equal, Greater, ◌≡◌, ℕ, zero, suc, ◌-◌, ◌^◌, ◌<◌, ◌≤◌, Bool, true, false, not, ◌&&◌, ◌||◌, List, [], ◌∷◌, length, take, nat_eq, refl, sym, ap, ◌∙◌, arith, inl, inr}
 use Rattle.std.specs.Ordering.{nat_cmp, is_lt, ordering_then, ordering_reverse}
 use Rattle.std.specs.Cmp.{nat_cmp_is}
 use Rattle.std.specs.Cmp.Lexicographic.{slice_cmp}
 use Rattle.std.specs.List.{starts_with}
 use Rattle.std.proofs.lemmas.Cmp.{nat_list_cmp_total}
 use Rattle.std.proofs.lemmas.Bool.{cases_lt, eqb-true, eq-eqb}
+use Rattle.std.proofs.lemmas.Map.Lookups.{exact_unsigned}
 use Rattle.std.proofs.lemmas.Slice.Eq.{bytes_eq-Decides}
 use Rattle.std.proofs.lemmas.List.{take_all}
 use Rattle.mx_hfile.specs.Encoding.{rises, Place}
@@ -78,14 +79,6 @@ rises-same a = same_by (slice_cmp nat_cmp a a) (nat_list_cmp_total.antisymm a a)
 pub starts_with-same : (a : List ℕ) → starts_with nat_eq a a ≡ true
 starts_with-same a = (bytes_eq-Decides a (take (length a) a)).1 (sym (take_all (length a) a (omega arith)))
 
-equal_is : (x y : ℕ) → nat_cmp x y ≡ Equal → x ≡ y
-equal_is x y e = by_tests (ltb x y) (eqb x y) refl e
-  where
-    by_tests : (a b : Bool) → eqb x y ≡ b → cond a Less (cond b Equal Greater) ≡ Equal → x ≡ y
-    by_tests true b is h = absurd cc
-    by_tests false true is h = eqb-true x y is
-    by_tests false false is h = absurd cc
-
 nat_cmp-same : (x : ℕ) → nat_cmp x x ≡ Equal
 nat_cmp-same x = sym (nat_cmp_is x x Equal refl)
 
@@ -101,7 +94,7 @@ prefix_not_above (x ∷ prefix) (z ∷ key) e =
 
 behind_step : (o : Ordering) (x y : ℕ) (s t : Ordering) (b : Bool) → nat_cmp x y ≡ o → is_lt (ordering_then o s) ≡ true → (nat_eq x y && b) ≡ false → (b ≡ false → is_lt s ≡ true → is_lt t ≡ true) → is_lt (ordering_then o t) ≡ true
 behind_step Less x y s t b e lt f more = refl
-behind_step Equal x y s t b e lt f more = more (second_false (nat_eq x y) b (eq-eqb x y (equal_is x y e)) f) lt
+behind_step Equal x y s t b e lt f more = more (second_false (nat_eq x y) b (eq-eqb x y (exact_unsigned x y e)) f) lt
 behind_step Greater x y s t b e lt f more = absurd cc
 
 -- what is above a prefix and does not begin with it is above each key that does

@@ -1,12 +1,13 @@
 -- The trailer and the index block are read one after the other.
 use Rattle.std.proofs.Common.{◌≡◌, ℕ, ◌+◌, ◌-◌, ◌^◌, ◌<◌, ◌≤◌, false, eqb, List, [], length, map, Ok, Err, refl, sym, ap, subst, arith}
 use Rattle.std.proofs.lemmas.Bool.{eq-eqb}
-use Rattle.mx_hfile.specs.declared.error.Fault.{Fault}
-use Rattle.mx_hfile.specs.declared.error.Fault.TheVariants as faults
+use Rattle.mx_lists.specs.declared.fault.Fault.{Fault}
+use Rattle.mx_lists.specs.declared.fault.Fault.TheVariants as faults
 use Rattle.mx_hfile.specs.declared.footer.Footer.{Footer}
 use Rattle.mx_hfile.specs.declared.loading.Held.{Held}
 use Rattle.mx_hfile.specs.Encoding.{Place}
-use Rattle.mx_hfile.specs.Decoding.{Fails, index_in}
+use Rattle.mx_lists.specs.Reading.{Fails}
+use Rattle.mx_hfile.specs.Decoding.{index_in}
 use Rattle.mx_hfile.specs.Seen.{placed_error}
 use Rattle.mx_hfile.specs.Ranges.{Reads, footer_in, loaded_in, KeysRise}
 use Rattle.mx_hfile.specs.Held.{held_place, Follow, IsIndex}

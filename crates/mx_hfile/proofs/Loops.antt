@@ -4,10 +4,11 @@ use Rattle.std.proofs.Common.{get_or, ◌≡◌, ℕ, zero, suc, ◌-◌, ◌+�
 use Rattle.std.proofs.lemmas.Bool.{eq-eqb, lt-ltb, le-ltb}
 use Rattle.std.proofs.lemmas.Bool.Decides.{nat_tests}
 use Rattle.mx_base.specs.declared.entry.Entry.{Entry}
-use Rattle.mx_hfile.specs.declared.error.Fault.{Fault}
-use Rattle.mx_hfile.specs.declared.error.Fault.TheVariants as faults
+use Rattle.mx_lists.specs.declared.fault.Fault.{Fault}
+use Rattle.mx_lists.specs.declared.fault.Fault.TheVariants as faults
 use Rattle.mx_hfile.specs.Encoding.{Place}
-use Rattle.mx_hfile.specs.Decoding.{◌>>=◌, Fails, listing_in, listings_in, HasCause, entry_in, entries_in, is_key, last_key, body_in, block_in, blocks_in}
+use Rattle.mx_lists.specs.Reading.{◌>>=◌, Fails}
+use Rattle.mx_hfile.specs.Decoding.{listing_in, listings_in, HasCause, entry_in, entries_in, is_key, last_key, body_in, block_in, blocks_in}
 use Rattle.mx_hfile.specs.Seen.{behind, Adds, placed_error}
 use Rattle.mx_hfile.proofs.FieldLemmas.{entry_shorter}
 

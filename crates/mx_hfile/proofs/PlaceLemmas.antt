@@ -5,9 +5,11 @@ use Rattle.std.proofs.lemmas.Bool.{eqb-true, eq-eqb}
 use Rattle.std.proofs.lemmas.Bool.Decides.{nat_tests}
 use Rattle.std.proofs.lemmas.List.{nil_from_length}
 use Rattle.mx_hfile.specs.Encoding.{number, index_magic, Place, listing, listings, index}
-use Rattle.mx_hfile.specs.Decoding.{◌>>=◌, passing, number_in, expected_in, is_key, key_in, is_length, listing_in, listings_in, index_in}
+use Rattle.mx_lists.specs.Reading.{◌>>=◌, passing}
+use Rattle.mx_hfile.specs.Decoding.{number_in, expected_in, is_key, key_in, is_length, listing_in, listings_in, index_in}
 use Rattle.mx_hfile.specs.Seen.{Covers}
-use Rattle.mx_hfile.proofs.FieldLemmas.{IsBytes, Took, Took-then, bind_ok, passed, ok_is, passing_again, passing_takes, wide32, number_codec, expected_takes, expected_again, IsGoodKey, key_codec, spelled}
+use Rattle.mx_lists.proofs.Codecs.{IsBytes, Took, Took-then, bind_ok, passed, ok_is}
+use Rattle.mx_hfile.proofs.FieldLemmas.{passing_again, passing_takes, wide32, number_codec, expected_takes, expected_again, IsGoodKey, key_codec, spelled}
 
 -- what is said of a block fits the data, with so many blocks behind it
 pub record IsGoodPlace (more at end : ℕ) (last : List ℕ) (p : Place) : Type 0 where

@@ -3,13 +3,15 @@ use Rattle.std.proofs.Common.{◌≡◌, ℕ, ◌+◌, ◌-◌, ◌<◌, ◌≤�
 use Rattle.std.specs.Int.{w32}
 use Rattle.std.proofs.lemmas.Bool.{le-ltb}
 use Rattle.mx_base.specs.declared.entry.Entry.{Entry}
-use Rattle.mx_hfile.specs.declared.error.Fault.{Fault}
-use Rattle.mx_hfile.specs.declared.error.Fault.TheVariants as faults
+use Rattle.mx_lists.specs.declared.fault.Fault.{Fault}
+use Rattle.mx_lists.specs.declared.fault.Fault.TheVariants as faults
 use Rattle.mx_hfile.specs.Encoding.{number, data_magic, entry_bytes}
-use Rattle.mx_hfile.specs.Decoding.{◌>>=◌, Fails, is_same, is_key, entry_in, entries_in, body_in}
+use Rattle.mx_lists.specs.Reading.{◌>>=◌, Fails}
+use Rattle.mx_hfile.specs.Decoding.{is_same, is_key, entry_in, entries_in, body_in}
 use Rattle.mx_hfile.specs.Seen.{behind, earlier}
 use Rattle.mx_hfile.specs.Ranges.{value_place, search_body, search_in, block_alone_in}
-use Rattle.mx_hfile.proofs.FieldLemmas.{IsBytes, wide32}
+use Rattle.mx_lists.proofs.Codecs.{IsBytes}
+use Rattle.mx_hfile.proofs.FieldLemmas.{wide32}
 use Rattle.mx_hfile.proofs.Loops.{more_entries, bad_entry, late_entry, no_entry, behind_bad}
 use Rattle.mx_hfile.proofs.DataLemmas.{body_takes, magic-length}
 

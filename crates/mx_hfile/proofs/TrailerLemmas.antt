@@ -5,7 +5,8 @@ use Rattle.std.proofs.lemmas.Bool.{lt-ltb, ltb-true}
 use Rattle.std.proofs.lemmas.List.{nil_from_length}
 use Rattle.mx_hfile.specs.Encoding.{number, trailer_magic, trailer}
 use Rattle.mx_hfile.specs.Decoding.{expected_in, number_in, offset_in, Trailer, trailer_in}
-use Rattle.mx_hfile.proofs.FieldLemmas.{IsBytes, Took-then, bind_ok, ok_is, passing_again, passing_takes, wide32, wide64, number_codec, expected_takes, expected_again}
+use Rattle.mx_lists.proofs.Codecs.{IsBytes, Took-then, bind_ok, ok_is}
+use Rattle.mx_hfile.proofs.FieldLemmas.{passing_again, passing_takes, wide32, wide64, number_codec, expected_takes, expected_again}
 use Rattle.mx_hfile.proofs.DividingLemmas.{trailer-length}
 
 abbrev pub zeros : List ℕ

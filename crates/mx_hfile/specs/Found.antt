@@ -3,7 +3,8 @@ use Rattle.std.specs.Prelude.{◌≡◌, ℕ, ◌-◌, ◌<◌, ◌≤◌, List,
 use Rattle.mx_base.specs.declared.entry.Entry.{Entry}
 use Rattle.mx_hfile.specs.declared.footer.Footer.{Footer}
 use Rattle.mx_hfile.specs.Encoding.{AreEntries, blocks_bytes, Place, place_of, index, blocks_of, encoding}
-use Rattle.mx_hfile.specs.Decoding.{◌>>=◌, is_same, Trailer, trailer_in}
+use Rattle.mx_lists.specs.Reading.{◌>>=◌}
+use Rattle.mx_hfile.specs.Decoding.{is_same, Trailer, trailer_in}
 use Rattle.mx_hfile.specs.Ranges.{search_in}
 
 -- entries that have a file

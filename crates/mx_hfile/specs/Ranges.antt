@@ -7,7 +7,8 @@ use Rattle.mx_hfile.specs.declared.error.HFileError.{HFileError}
 use Rattle.mx_hfile.specs.declared.error.HFileError.TheVariants as errors
 use Rattle.mx_hfile.specs.declared.footer.Footer.{Footer}
 use Rattle.mx_hfile.specs.Encoding.{number, trailer_magic, rises, entry_bytes, Place}
-use Rattle.mx_hfile.specs.Decoding.{◌>>=◌, Reader, passing, number_in, is_same, expected_in, entries_in, body_in, placed, index_in}
+use Rattle.mx_lists.specs.Reading.{◌>>=◌, Reader, passing}
+use Rattle.mx_hfile.specs.Decoding.{number_in, is_same, expected_in, entries_in, body_in, placed, index_in}
 
 -- ---- answers
 

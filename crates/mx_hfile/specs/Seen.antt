@@ -2,14 +2,15 @@
 use denote.Bor.{Bor}
 use Rattle.std.specs.Prelude.{◌≡◌, ℕ, ◌-◌, ◌≤◌, List, [], ◌∷◌, ◌++◌, Option, Some, None, Result, Ok, Err}
 use Rattle.mx_base.specs.declared.entry.Entry.{Entry}
-use Rattle.mx_hfile.specs.declared.error.Fault.{Fault}
-use Rattle.mx_hfile.specs.declared.error.Fault.TheVariants as faults
+use Rattle.mx_lists.specs.declared.fault.Fault.{Fault}
+use Rattle.mx_lists.specs.declared.fault.Fault.TheVariants as faults
 use Rattle.mx_hfile.specs.declared.error.HFileError.{HFileError}
 use Rattle.mx_hfile.specs.declared.error.HFileError.TheVariants as errors
 use Rattle.mx_hfile.specs.declared.listing.Listing.{Listing}
 use Rattle.mx_hfile.specs.declared.trailer.Trailer.{Trailer as declared_Trailer}
 use Rattle.mx_hfile.specs.Encoding.{Place}
-use Rattle.mx_hfile.specs.Decoding.{◌>>=◌, Fails, Trailer, last_key}
+use Rattle.mx_lists.specs.Reading.{◌>>=◌, Fails}
+use Rattle.mx_hfile.specs.Decoding.{Trailer, last_key}
 
 -- a fault of the bytes
 abbrev pub IsBad : Fault → Type 0

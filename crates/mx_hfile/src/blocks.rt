@@ -1,12 +1,13 @@
 ghost use Rattle.std.specs.Prelude.{◌≡◌, ◌≤◌, ◌++◌, ◌∷◌, OnOk, IfErr, [], length, map, None, Some};
-ghost use Rattle.mx_hfile.specs.Decoding.{Decodes, IsWithin, Gives, last_key, body_in, entries_in, block_in, blocks_in};
+ghost use Rattle.mx_lists.specs.Reading.{Gives};
+ghost use Rattle.mx_hfile.specs.Decoding.{Decodes, IsWithin, last_key, body_in, entries_in, block_in, blocks_in};
 ghost use Rattle.mx_hfile.specs.Seen.{seen, Adds, Covers, IsBad};
 
-use crate::error::{Fault, HFileError};
+use crate::error::{HFileError, before};
 use crate::fields::{bad, entry_of, expected};
 use crate::listing::Listing;
 use mx_base::Entry;
-use mx_lists::Bytes;
+use mx_lists::{Bytes, Fault};
 use std::alloc::{AllocError, Global};
 
 pub(crate) const DATA_MAGIC: [u8; 8] = *b"DATABLK*";
@@ -31,7 +32,7 @@ pub(crate) fn entries_of(
         let (block, behind) = rest.split_at(listing.len as usize);
         match push_block(alloc, &mut entries, last, listing, block) {
             Ok(key) => last = key,
-            Err(fault) => return Err(fault.before(bytes.len() - behind.len())),
+            Err(fault) => return Err(before(fault, bytes.len() - behind.len())),
         }
         rest = behind;
     }

@@ -1,12 +1,13 @@
 ghost use Rattle.std.specs.Prelude.{◌≡◌, length, Err, IfErr};
 ghost use Rattle.std.specs.Int.{w16, w32, w64};
 ghost use Rattle.std.specs.Option.{option_map};
-ghost use Rattle.mx_hfile.specs.declared.error.Fault.TheVariants as faults;
+ghost use Rattle.mx_lists.specs.declared.fault.Fault.TheVariants as faults;
 ghost use Rattle.mx_hfile.specs.Encoding.{rises};
-ghost use Rattle.mx_hfile.specs.Decoding.{Gives, number_in, text_in, expected_in, key_in, value_in, entry_in, is_key};
+ghost use Rattle.mx_lists.specs.Reading.{Gives};
+ghost use Rattle.mx_hfile.specs.Decoding.{number_in, text_in, expected_in, key_in, value_in, entry_in, is_key};
 ghost use Rattle.mx_hfile.specs.Seen.{IsBad};
 
-use crate::error::Fault;
+use mx_lists::Fault;
 
 pub(crate) fn bad<T>(bytes: &[u8]) -> Result<T, Fault>
     ensures { result ≡ Err (faults.Bad (length bytes.now)) }

@@ -1,12 +1,13 @@
 ghost use Rattle.std.specs.Prelude.{◌≡◌, ◌≤◌, ◌<◌, ◌^◌, ◌+◌, length, IfErr, IfOk};
-ghost use Rattle.mx_hfile.specs.Decoding.{Gives};
+ghost use Rattle.mx_lists.specs.Reading.{Gives};
 ghost use Rattle.mx_hfile.specs.Seen.{IsBad};
 ghost use Rattle.mx_hfile.specs.Ranges.{answered, offset_alone_in, index_len_in, footer_in, index_place_in};
 
-use crate::error::{Fault, HFileError};
+use crate::error::{HFileError, before};
 use crate::fields::{bad, expected, u32_in, u64_in};
 use crate::reading::MOST_BYTES;
 use crate::trailer::TRAILER_MAGIC;
+use mx_lists::Fault;
 
 /// What the trailer says by itself: where the index block begins and how long it is, and how many entries and blocks
 /// there are.
@@ -26,7 +27,7 @@ pub fn index_place(trailer: &[u8]) -> Result<(u64, u64), HFileError>
 {
     match footer_of(trailer) {
         Ok(footer) => Ok((footer.offset, footer.index_len)),
-        Err(fault) => Err(fault.before(trailer.len())),
+        Err(fault) => Err(before(fault, trailer.len())),
     }
 }
 

@@ -1,10 +1,11 @@
 ghost use Rattle.std.specs.Prelude.{◌≡◌, ◌≤◌, ◌<◌, ◌^◌, ◌+◌, IfOk, IsTrue, None, List, [], ℕ, map, length};
 ghost use Rattle.mx_hfile.specs.Encoding.{number, index_magic};
-ghost use Rattle.mx_hfile.specs.Decoding.{Gives, is_length, listing_in, listings_in, index_in};
+ghost use Rattle.mx_lists.specs.Reading.{Gives};
+ghost use Rattle.mx_hfile.specs.Decoding.{is_length, listing_in, listings_in, index_in};
 ghost use Rattle.mx_hfile.specs.Seen.{seen};
 
-use crate::error::Fault;
 use crate::fields::{bad, expected, key_of, u32_in};
+use mx_lists::Fault;
 use std::alloc::Global;
 
 pub(crate) const INDEX_MAGIC: [u8; 8] = *b"IDXROOT2";

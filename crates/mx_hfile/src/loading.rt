@@ -3,7 +3,7 @@ ghost use Rattle.mx_hfile.specs.Seen.{seen};
 ghost use Rattle.mx_hfile.specs.Ranges.{Reads, loaded_in, place_at, KeysRise, IsBlockFor, AreAllAbove, CanHold};
 ghost use Rattle.mx_hfile.specs.Held.{held_place, Follow, is_upto, is_through, IsCountOf};
 
-use crate::error::HFileError;
+use crate::error::{HFileError, before};
 use crate::footer::footer_of;
 use crate::listing::{Listing, index_of};
 use mx_lists::Bytes;
@@ -48,7 +48,7 @@ impl Index {
     {
         let footer = match footer_of(trailer) {
             Ok(footer) => footer,
-            Err(fault) => return Err(fault.before(trailer.len())),
+            Err(fault) => return Err(before(fault, trailer.len())),
         };
         if index.len() as u64 != footer.index_len {
             return Err(HFileError::BadHFile {
@@ -58,7 +58,7 @@ impl Index {
         let end = footer.offset as usize + index.len();
         let listings = match index_of(alloc, footer.block_count, footer.offset as usize, index) {
             Ok(listings) => listings,
-            Err(fault) => return Err(fault.before(end)),
+            Err(fault) => return Err(before(fault, end)),
         };
         Ok(Index {
             blocks: held_of(alloc, &listings)?,

@@ -5,7 +5,7 @@ ghost use Rattle.mx_hfile.specs.Decoding.{Decodes, IsOnly, IsWithin, file_in, bl
 ghost use Rattle.mx_hfile.specs.Seen.{seen};
 
 use crate::blocks::entries_of;
-use crate::error::HFileError;
+use crate::error::{HFileError, before};
 use crate::listing::index_of;
 use crate::trailer::trailer_of;
 use mx_base::Entry;
@@ -40,13 +40,13 @@ fn file_of(alloc: Global, bytes: &[u8]) -> Result<Vec<Entry>, HFileError>
     let (_, trailer) = bytes.split_at(len - 64);
     let trailer = match trailer_of(len, trailer) {
         Ok(trailer) => trailer,
-        Err(fault) => return Err(fault.before(len)),
+        Err(fault) => return Err(before(fault, len)),
     };
     let (blocks, behind) = bytes.split_at(trailer.offset);
     let (index, _) = behind.split_at(len - 64 - trailer.offset);
     let listings = match index_of(alloc, trailer.block_count, trailer.offset, index) {
         Ok(listings) => listings,
-        Err(fault) => return Err(fault.before(len - 64)),
+        Err(fault) => return Err(before(fault, len - 64)),
     };
     let entries = entries_of(alloc, &listings, blocks)?;
     if entries.len() as u64 != trailer.entry_count {

@@ -1,12 +1,13 @@
 ghost use Rattle.std.specs.Prelude.{◌≡◌, ◌≤◌, ◌-◌, length, Some, None, IfErr, if◌then◌else◌};
-ghost use Rattle.mx_hfile.specs.Decoding.{Gives};
+ghost use Rattle.mx_lists.specs.Reading.{Gives};
 ghost use Rattle.mx_hfile.specs.Seen.{IsBad, earlier};
 ghost use Rattle.mx_hfile.specs.Ranges.{answered, search_in, search_body};
 
 use crate::blocks::{FULL, body_of};
-use crate::error::{Fault, HFileError};
+use crate::error::{HFileError, before};
 use crate::fields::{bad, entry_of};
 use crate::reading::MOST_BYTES;
+use mx_lists::Fault;
 
 /// The start and the end of the value of the key in the bytes of a block, or `None` where the block has no such key.
 ///
@@ -16,7 +17,7 @@ pub fn search(block: &[u8], key: &[u8]) -> Result<Option<(usize, usize)>, HFileE
 {
     match search_of(block, key) {
         Ok(found) => Ok(found),
-        Err(fault) => Err(fault.before(block.len())),
+        Err(fault) => Err(before(fault, block.len())),
     }
 }
 

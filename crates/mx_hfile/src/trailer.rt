@@ -1,9 +1,10 @@
 ghost use Rattle.std.specs.Prelude.{◌≡◌, ◌≤◌, ◌-◌, ◌+◌, length, replicate, IfOk, ◌<◌};
-ghost use Rattle.mx_hfile.specs.Decoding.{Gives, offset_in, trailer_in};
+ghost use Rattle.mx_lists.specs.Reading.{Gives};
+ghost use Rattle.mx_hfile.specs.Decoding.{offset_in, trailer_in};
 ghost use Rattle.mx_hfile.specs.Seen.{said};
 
-use crate::error::Fault;
 use crate::fields::{bad, expected, u32_in, u64_in};
+use mx_lists::Fault;
 
 pub(crate) const TRAILER_MAGIC: [u8; 8] = *b"MDTTRAIL";
 

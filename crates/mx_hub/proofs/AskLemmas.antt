@@ -1,5 +1,5 @@
 -- From what the table's calls do to what an ask is answered.
-use Rattle.std.proofs.Common.{◌≡◌, ◌≢◌, ◌⊎◌, inl, inr, ℕ, ◌+◌, ◌<◌, ◌^◌, List, [], ◌∷◌, length, Option, Some, None, refl, sym, ◌∙◌, ap, subst, arith}
+use Rattle.std.proofs.Common.{◌≡◌, ◌≢◌, ◌⊎◌, inl, inr, ℕ, ◌+◌, ◌<◌, ◌^◌, List, [], ◌∷◌, ◌++◌, length, Option, Some, None, refl, sym, ◌∙◌, ap, subst, arith, append_assoc, append-nil}
 use Rattle.std.specs.Prelude.{IfOk, IfSome, Result, Ok, Err}
 use Rattle.mx_ask.specs.declared.ask.Ask.{Ask}
 use Rattle.mx_ask.specs.declared.ask.FileRows.{FileRows}
@@ -13,15 +13,18 @@ use Rattle.mx_store.specs.declared.store.StoreError.{StoreError}
 use Rattle.mx_store.specs.declared.store.StoreError.TheVariants as store
 use Rattle.mx_store.proofs.Longer.{EachSince-now}
 use Rattle.mx_folder.specs.Folder.{IsValidTable}
-use Rattle.mx_lookup.specs.Looking.{IsAnswer, IsLookedUp}
+use Rattle.mx_files.specs.Files.{FilesMap}
+use Rattle.mx_folder.specs.Completed.{completed_upto}
+use Rattle.mx_lookup.specs.Looking.{IsAnswer, IsLookedUp, ReadsAll, slice_paths}
+use Rattle.mx_model.specs.Answer.{answer}
 use Rattle.mx_world.specs.declared.error.ChangeError.TheVariants as changes
 use Rattle.mx_world.specs.declared.mirror.Mirror.{Mirror}
-use Rattle.mx_world.specs.State.{Holds, Settles, Stands, Standing}
+use Rattle.mx_world.specs.State.{Holds, ReadsDoubt, Settles, Stands, Standing, path_of}
 use Rattle.mx_writer.specs.declared.committing.CommitError.{CommitError}
 use Rattle.mx_writer.specs.declared.committing.CommitError.TheVariants.{TooMany, DuplicateGroup, BadRow, DuplicateRow, TooLarge, InstantsUsedUp, Stopped}
 use Rattle.mx_writer.specs.Commit.{Commits, CountsCommit}
 use Rattle.mx_hub.specs.declared.answered.Answered.{Answered}
-use Rattle.mx_hub.specs.Answers.{AnswersQuestion, AnswersSettled, CommitsFiles, CountsRefusal, CountsReply, IsAnswered, IsRefusedFor, IsCounted, IsReplyTo, paths_at, IsShown, WasTable, commit_refusal, look_reply, store_refusal}
+use Rattle.mx_hub.specs.Answers.{AnswersCommits, AnswersQuestion, AnswersSettled, CommitsFiles, CountsRefusal, CountsReply, IsAnswered, IsRefusedFor, IsCounted, HasReadSlice, IsReplyTo, ReadsLast, ReadsSlice, paths_at, IsShown, WasTable, commit_refusal, commit_reply, look_reply, store_refusal}
 
 -- ---- the store's faults
 
@@ -137,3 +140,53 @@ looked opening question asked before after reply reads_before reads_after same v
   shows = shows opening before.journal question asked reply reads_before reads_after valid is;
   reply_is = refl;
 }
+
+-- ---- what a look-up read
+
+all_last : (paths : List (List ℕ)) (before after : Option (List (List ℕ))) → ReadsAll paths before after → ReadsLast paths before after
+all_last paths None after all = all
+all_last paths (Some before) after all = ([], all ∙ ap (λ (l : List (List ℕ)). Some (l ++ paths)) (sym (append-nil before)))
+
+read_answer : (o : Objects) (question : Question) (files : FilesMap) (at : ℕ) (before after : Option (List (List ℕ))) → ReadsAll (slice_paths (completed_upto o at)) before after → HasReadSlice o (answer question files at) before after
+read_answer o (Question.Files partition) files at before after all = all_last (slice_paths (completed_upto o at)) before after all
+read_answer o Question.Partitions files at before after all = all_last (slice_paths (completed_upto o at)) before after all
+
+pub reads_looked : (opening journal now : Option (List Change)) (question : Question) (asked : Option ℕ) (reply : Reply) (before after : Option (List (List ℕ))) → now ≡ journal → IfSome journal (λ (j : List Change). WasTable opening → IsValidTable (objects_of j))
+    → IfSome journal (λ (j : List Change). IsLookedUp (objects_of j) question asked reply before after) → ReadsSlice opening now reply before after
+reads_looked opening journal now question asked reply before after same valid is = subst (λ (o : Option (List Change)). ReadsSlice opening o reply before after) (sym same) (by_journal journal valid is)
+  where
+    by_journal : (o : Option (List Change)) → IfSome o (λ (j : List Change). WasTable opening → IsValidTable (objects_of j)) → IfSome o (λ (j : List Change). IsLookedUp (objects_of j) question asked reply before after) → ReadsSlice opening o reply before after
+    by_journal None valid is = tt
+    by_journal (Some j) valid is = λ was. subst (λ (r : Reply). HasReadSlice (objects_of j) r before after) (sym (is.answer (valid was))) (read_answer (objects_of j) question _ is.at before after is.reads)
+
+pub reads_refused : (opening journal : Option (List Change)) (refusal : Refusal) (before after : Option (List (List ℕ))) → ReadsSlice opening journal (Reply.Refused refusal) before after
+reads_refused opening None refusal before after = tt
+reads_refused opening (Some j) refusal before after = λ _. tt
+
+-- no commit is answered as a look-up
+pub reads_commit : (opening journal : Option (List Change)) (files : List FileRows) (before after : Standing) (reply : Reply) (old new : Option (List (List ℕ))) → AnswersCommits files before after reply → ReadsSlice opening journal reply old new
+reads_commit opening journal files before after reply old new (inl is) = subst (λ (r : Reply). ReadsSlice opening journal r old new) (sym is.reply_is) (by_end journal is.ended)
+  where
+    by_end : (o : Option (List Change)) (ended : Result ℕ CommitError) → ReadsSlice opening o (commit_reply files ended) old new
+    by_end None ended = tt
+    by_end (Some j) (Ok at) = λ _. tt
+    by_end (Some j) (Err why) = λ _. tt
+reads_commit opening journal files before after reply old new (inr short) = subst (λ (r : Reply). ReadsSlice opening journal r old new) (sym short.refused) (reads_refused opening journal Refusal.NoMemory old new)
+
+moved_back : (reads : List (List ℕ)) (path : List ℕ) (front paths : List (List ℕ)) → Some (((reads ++ path ∷ []) ++ front) ++ paths) ≡ Some ((reads ++ path ∷ front) ++ paths)
+moved_back reads path front paths = ap (λ (l : List (List ℕ)). Some (l ++ paths)) (append_assoc reads (path ∷ []) front)
+
+last_behind : (paths : List (List ℕ)) (doubt : Option Change) (before during after : Option (List (List ℕ))) → ReadsDoubt doubt before during (Ok tt) → ReadsLast paths during after → ReadsLast paths before after
+last_behind paths None before during after settled last = subst (λ (r : Option (List (List ℕ))). ReadsLast paths r after) settled last
+last_behind paths (Some change) None during after settled last = subst (λ (r : Option (List (List ℕ))). ReadsLast paths r after) settled last
+last_behind paths (Some change) (Some reads) during after settled last =
+    let moved = subst (λ (r : Option (List (List ℕ))). ReadsLast paths r after) settled last in
+    (path_of change ∷ moved.0, moved.1 ∙ moved_back reads (path_of change) moved.0 paths)
+
+-- what settled the doubt was read before
+pub reads_behind : (opening journal : Option (List Change)) (doubt : Option Change) (reply : Reply) (before during after : Option (List (List ℕ))) → ReadsDoubt doubt before during (Ok tt) → ReadsSlice opening journal reply during after → ReadsSlice opening journal reply before after
+reads_behind opening None doubt reply before during after settled is = tt
+reads_behind opening (Some j) doubt (Reply.Files at files) before during after settled is = λ was. last_behind (slice_paths (completed_upto (objects_of j) at)) doubt before during after settled (is was)
+reads_behind opening (Some j) doubt (Reply.Partitions at partitions) before during after settled is = λ was. last_behind (slice_paths (completed_upto (objects_of j) at)) doubt before during after settled (is was)
+reads_behind opening (Some j) doubt (Reply.Committed at files) before during after settled is = λ _. tt
+reads_behind opening (Some j) doubt (Reply.Refused refusal) before during after settled is = λ _. tt

@@ -1,5 +1,5 @@
 -- What an ask is answered, by what stands before it and after it.
-use Rattle.std.specs.Prelude.{◌≡◌, ◌⊎◌, ℕ, ◌+◌, ◌≤◌, List, length, map, Option, Some, None, IfOk, IfSome, Result, Ok, Err}
+use Rattle.std.specs.Prelude.{◌≡◌, ◌⊎◌, ℕ, ◌+◌, ◌≤◌, List, ◌++◌, length, map, Option, Some, None, IfOk, IfSome, Result, Ok, Err}
 use Rattle.mx_ask.specs.declared.ask.Ask.{Ask}
 use Rattle.mx_ask.specs.declared.ask.AskKind.{AskKind}
 use Rattle.mx_ask.specs.declared.ask.FileRows.{FileRows}
@@ -15,8 +15,9 @@ use Rattle.mx_store.specs.declared.store.StoreError.TheVariants as store
 use Rattle.mx_store.specs.Calls.{Rose}
 use Rattle.mx_store.specs.Objects.{Objects, objects_of}
 use Rattle.mx_folder.specs.Actions.{actions_upto}
+use Rattle.mx_folder.specs.Completed.{completed_upto}
 use Rattle.mx_folder.specs.Folder.{IsValidTable}
-use Rattle.mx_lookup.specs.Looking.{IsPinned, floor}
+use Rattle.mx_lookup.specs.Looking.{IsPinned, floor, slice_paths}
 use Rattle.mx_world.specs.declared.error.ChangeError.{ChangeError}
 use Rattle.mx_world.specs.declared.error.ChangeError.TheVariants as changes
 use Rattle.mx_world.specs.State.{Standing, Settles}
@@ -97,6 +98,22 @@ pub record AnswersQuestion (opening : Option (List Change)) (question : Question
   pub found : Result Reply StoreError
   pub shows : IfOk found (λ (shown : Reply). IfSome before.journal (λ (j : List Change). WasTable opening → IsShown (objects_of j) question asked shown))
   pub reply_is : reply ≡ look_reply found
+
+-- where reads are told, these paths are the last that were read since
+abbrev pub ReadsLast : List (List ℕ) → Option (List (List ℕ)) → Option (List (List ℕ)) → Type 0
+ReadsLast paths None after = after ≡ None
+ReadsLast paths (Some before) after = (front : List (List ℕ)) × (after ≡ Some (before ++ front ++ paths))
+
+-- a look-up that is answered has read the first base, and the logs of the commits that are completed up to its instant
+abbrev pub HasReadSlice : Objects → Reply → Option (List (List ℕ)) → Option (List (List ℕ)) → Type 0
+HasReadSlice objects (Reply.Files at files) before after = ReadsLast (slice_paths (completed_upto objects at)) before after
+HasReadSlice objects (Reply.Partitions at partitions) before after = ReadsLast (slice_paths (completed_upto objects at)) before after
+HasReadSlice objects (Reply.Committed at files) before after = Unit {0}
+HasReadSlice objects (Reply.Refused refusal) before after = Unit {0}
+
+-- the same where the journal is told and the opening was a valid table
+abbrev pub ReadsSlice : Option (List Change) → Option (List Change) → Reply → Option (List (List ℕ)) → Option (List (List ℕ)) → Type 0
+ReadsSlice opening journal reply before after = IfSome journal (λ (j : List Change). WasTable opening → HasReadSlice (objects_of j) reply before after)
 
 -- ---- an ask
 

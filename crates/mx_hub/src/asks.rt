@@ -1,7 +1,7 @@
 ghost use Rattle.std.specs.Prelude.{◌≡◌, ◌+◌, ◌<◌, ◌^◌, IfOk, None};
 ghost use Rattle.mx_world.specs.State.{Stands, standing};
 ghost use Rattle.mx_hub.specs.Answers as spec;
-ghost use Rattle.mx_hub.specs.Answers.{AnswersCommits, AnswersQuestion, AnswersSettled, CommitsFiles, CountsEnded, CountsReply, IsAnswered, IsRefusedFor, IsReplyTo, paths_at};
+ghost use Rattle.mx_hub.specs.Answers.{AnswersCommits, AnswersQuestion, AnswersSettled, CommitsFiles, CountsEnded, CountsReply, IsAnswered, IsRefusedFor, IsReplyTo, ReadsSlice, paths_at};
 
 use crate::answered::Answered;
 use mx_ask::{Ask, AskKind, FileRows, Question, Refusal, Reply};
@@ -13,7 +13,7 @@ use mx_world::{ChangeError, World};
 use mx_writer::{CommitError, commit};
 use std::alloc::{AllocError, Global};
 
-/// Answers an ask. Where a change is in doubt it is settled before, by one read of its path.
+/// Answers an ask. Where a change is in doubt it is settled before, by one read of its path. A look-up reads its slice.
 pub fn drive<S: Store, N: Named>(
     alloc: Global,
     table: &mut World<S, N>,
@@ -22,6 +22,7 @@ pub fn drive<S: Store, N: Named>(
 ) -> Answered
     ensures number { result.ask ≡ number }
     ensures answered { IsAnswered N.opening ask.now (standing S.journal table.old) (standing S.journal table.new) result }
+    ensures reads { ReadsSlice N.opening (S.journal table.new.store) result.reply (S.reads table.old.store) (S.reads table.new.store) }
     ensures faults { CountsReply (S.faults table.old.store) (S.faults table.new.store) result.reply }
 {
     match table.settle(alloc) {
@@ -60,6 +61,7 @@ fn answer_settled<S: Store, N: Named>(
     ensures counted { spec.IsCounted N.opening (standing S.journal table.old) }
     ensures seq { result.seq ≡ table.new.applied }
     ensures reply { IsReplyTo N.opening ask.now (standing S.journal table.old) (standing S.journal table.new) result.reply }
+    ensures reads { ReadsSlice N.opening (S.journal table.new.store) result.reply (S.reads table.old.store) (S.reads table.new.store) }
     ensures faults { CountsReply (S.faults table.old.store) (S.faults table.new.store) result.reply }
 {
     let begun = table.seq();
@@ -76,6 +78,7 @@ fn answer_settled<S: Store, N: Named>(
 fn reply_to<S: Store, N: Named>(alloc: Global, table: &mut World<S, N>, ask: &Ask) -> Reply
     requires sure { table.old.doubt ≡ None }
     ensures reply { IsReplyTo N.opening ask.now (standing S.journal table.old) (standing S.journal table.new) result }
+    ensures reads { ReadsSlice N.opening (S.journal table.new.store) result (S.reads table.old.store) (S.reads table.new.store) }
     ensures faults { CountsReply (S.faults table.old.store) (S.faults table.new.store) result }
 {
     match &ask.kind {
@@ -144,6 +147,7 @@ fn question_replied<S: Store, N: Named>(
 ) -> Reply
     requires sure { table.old.doubt ≡ None }
     ensures reply { AnswersQuestion N.opening question.now at (standing S.journal table.old) (standing S.journal table.new) result }
+    ensures reads { ReadsSlice N.opening (S.journal table.new.store) result (S.reads table.old.store) (S.reads table.new.store) }
     ensures faults { CountsReply (S.faults table.old.store) (S.faults table.new.store) result }
 {
     // The call tells that the folder is a valid table.

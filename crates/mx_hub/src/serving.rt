@@ -2,7 +2,7 @@ ghost use Rattle.std.specs.Prelude.{◌≡◌, ◌≢◌, ◌<◌, ◌^◌, ◌+
 ghost use Rattle.mx_store.specs.Calls.{Rose};
 ghost use Rattle.mx_store.specs.Streams.{added};
 ghost use Rattle.mx_lines.specs.Ahead.{CountsBytes};
-ghost use Rattle.mx_lines.specs.Lines.{lines_of};
+ghost use Rattle.mx_lines.specs.Lines.{LinesAreCut, lines_of};
 ghost use Rattle.mx_hub.specs.History.{IsHistory, moment, printed, printed_replies};
 
 use crate::answered::Answered;
@@ -46,6 +46,7 @@ pub fn serve<S: Store, I: Source, O: Sink, N: Named>(
     ensures part { result.ending ≡ Ending.SinkFault → (n : ℕ) × (O.written sink.new ≡ added (O.written sink.old) (take n (printed_replies result.answers))) }
     ensures short { result.ending ≡ Ending.Done → IfSome (I.left source.old) (λ input. length input < 2 ^ 40) }
     ensures too_long { result.ending ≡ Ending.TooLong → CountsBytes 0 (I.left source.old) (2 ^ 40) (I.left source.new) }
+    ensures cut { result.ending ≡ Ending.TooLong → LinesAreCut (I.left source.old) (length result.answers) (I.left source.new) }
     ensures source_fault { result.ending ≡ Ending.SourceFault → Rose (I.faults source.old) (I.faults source.new) }
     ensures sink_fault { result.ending ≡ Ending.SinkFault → Rose (O.faults sink.old) (O.faults sink.new) }
 {

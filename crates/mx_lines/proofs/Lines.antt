@@ -1,9 +1,10 @@
 -- How the lines of what is left go on.
-use Rattle.std.proofs.Common.{◌≡◌, ℕ, List, [], ◌∷◌, ◌++◌, Option, Some, None, refl, sym, ◌∙◌, ap, append_assoc, append-nil}
+use Rattle.std.proofs.Common.{◌≡◌, ℕ, List, [], ◌∷◌, ◌++◌, length, drop, Option, Some, None, refl, sym, ◌∙◌, ap, append_assoc, append-nil}
+use Rattle.std.proofs.Math.Seq.{drop-append_seam}
 use Rattle.std.specs.Prelude.{IfSome}
 use Rattle.mx_lines.specs.declared.line.Line.{Line}
 use Rattle.mx_lines.specs.declared.line.Line.TheVariants.{Whole, Long}
-use Rattle.mx_lines.specs.Lines.{lines_of, LinesGo, IsLine, TakesLine}
+use Rattle.mx_lines.specs.Lines.{lines_of, LinesGo, LinesAreCut, IsLine, TakesLine}
 
 -- one run of lines after another
 pub lines_on : (old : Option (List ℕ)) (xs : List (List ℕ)) (mid : Option (List ℕ)) (ys : List (List ℕ)) (new : Option (List ℕ)) → LinesGo old xs mid → LinesGo mid ys new → LinesGo old (xs ++ ys) new
@@ -33,3 +34,12 @@ pub lines_done : (old : Option (List ℕ)) (lines : List (List ℕ)) (new : Opti
 lines_done None lines new go end = tt
 lines_done (Some input) lines None go end = absurd go
 lines_done (Some input) lines (Some left) go end = go ∙ ap (λ (l : List ℕ). lines ++ lines_of l) end ∙ append-nil lines
+
+-- the lines behind those that were taken are cut as those of the rest are
+pub lines_cut : (old : Option (List ℕ)) (lines : List (List ℕ)) (mid new : Option (List ℕ)) (count : ℕ) → LinesGo old lines mid → count ≡ length lines → LinesAreCut mid 0 new → LinesAreCut old count new
+lines_cut None lines None new count go is cut = cut
+lines_cut None lines (Some mid) new count go is cut = absurd (cc go)
+lines_cut (Some old) lines None new count go is cut = absurd go
+lines_cut (Some old) lines (Some mid) None count go is cut = cut
+lines_cut (Some old) lines (Some mid) (Some new) count go is cut =
+    (cut.0, ap (λ (n : ℕ). drop n (lines_of old)) is ∙ ap (drop (length lines)) go ∙ drop-append_seam lines (lines_of mid) ∙ cut.1)

@@ -41,6 +41,12 @@ PieceGoes None piece new = new ≡ None
 PieceGoes (Some old) piece None = ⊥
 PieceGoes (Some old) piece (Some new) = lines_of old ≡ lines_from piece new
 
+-- where they are told: all lines but so many first ones are those of a piece that was read and of what is left
+abbrev pub LinesAreCut : Option (List ℕ) → ℕ → Option (List ℕ) → Type 0
+LinesAreCut None count new = new ≡ None
+LinesAreCut (Some old) count None = ⊥
+LinesAreCut (Some old) count (Some new) = (piece : List ℕ) × (drop count (lines_of old) ≡ lines_from piece new)
+
 -- the most bytes of a line that is held
 unfoldable pub longest_line : ℕ
 longest_line = 2 ^ 22

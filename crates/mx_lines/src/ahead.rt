@@ -107,6 +107,7 @@ fn refill<I: Source>(source: &mut I, ahead: &mut Ahead) -> Result<bool, ReadErro
     ensures fault { IsErrOf result ReadError.Fault → Rose (I.faults source.old) (I.faults source.new) }
     ensures too_long { IsErrOf result ReadError.TooLong ↔ (ahead.old.taken ≡ 2 ^ 40) }
     ensures too_long_new { IsErrOf result ReadError.TooLong → ahead.new.taken ≡ 2 ^ 40 }
+    ensures kept { IsErrOf result ReadError.TooLong → I.left source.new ≡ I.left source.old }
     ensures no_memory { IsErrOf result ReadError.NoMemory → ⊥ }
     ensures faults { OnOk result (I.faults source.new ≡ I.faults source.old) }
     ensures quiet { IfErr result (λ e. e ≢ ReadError.Fault → I.faults source.new ≡ I.faults source.old) }
@@ -133,6 +134,7 @@ pub(crate) fn fill<I: Source>(source: &mut I, ahead: &mut Ahead) -> Result<bool,
     ensures budget { OnOk result (budget ahead.new ≡ budget ahead.old) }
     ensures fault { IsErrOf result ReadError.Fault → Rose (I.faults source.old) (I.faults source.new) }
     ensures too_long { IsErrOf result ReadError.TooLong → ahead.new.taken ≡ 2 ^ 40 }
+    ensures kept { IsErrOf result ReadError.TooLong → (ahead.old.ahead ≡ []) × (I.left source.new ≡ I.left source.old) }
     ensures no_memory { IsErrOf result ReadError.NoMemory → ⊥ }
     ensures faults { OnOk result (I.faults source.new ≡ I.faults source.old) }
     ensures quiet { IfErr result (λ e. e ≢ ReadError.Fault → I.faults source.new ≡ I.faults source.old) }

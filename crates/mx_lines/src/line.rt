@@ -2,7 +2,7 @@ ghost use Rattle.std.specs.Prelude.{◌≡◌, ◌≢◌, ◌≤◌, ◌<◌, �
 ghost use Rattle.std.specs.List.{position_or_len};
 ghost use Rattle.mx_store.specs.Calls.{Rose};
 ghost use Rattle.mx_lines.specs.Ahead.{all_left, budget, CountsBytes};
-ghost use Rattle.mx_lines.specs.Lines.{IsLine, TakesLine, before_newline, after_newline, has_newline};
+ghost use Rattle.mx_lines.specs.Lines.{IsLine, LinesAreCut, TakesLine, before_newline, after_newline, has_newline};
 
 use crate::ahead::{Ahead, ReadError, fill};
 use mx_lists::Bytes;
@@ -87,6 +87,7 @@ pub fn next_line<I: Source>(
     ensures room { IfOk result (λ o. IfNone o (ahead.new.taken < 2 ^ 40)) }
     ensures fault { IsErrOf result ReadError.Fault → Rose (I.faults source.old) (I.faults source.new) }
     ensures too_long { IsErrOf result ReadError.TooLong → ahead.new.taken ≡ 2 ^ 40 }
+    ensures cut { IsErrOf result ReadError.TooLong → LinesAreCut (all_left ahead.old (I.left source.old)) 0 (I.left source.new) }
     ensures faults { OnOk result (I.faults source.new ≡ I.faults source.old) }
     ensures quiet { IfErr result (λ e. e ≢ ReadError.Fault → I.faults source.new ≡ I.faults source.old) }
     ensures count { CountsBytes ahead.old.taken (I.left source.old) ahead.new.taken (I.left source.new) }

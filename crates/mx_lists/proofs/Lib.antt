@@ -1,0 +1,3 @@
+pub mod Plain
+pub mod TreeLemmas
+pub mod Codecs

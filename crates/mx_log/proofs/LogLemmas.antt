@@ -7,8 +7,10 @@ use Rattle.std.proofs.lemmas.Bool.{lt-ltb}
 use Rattle.std.proofs.lemmas.Bool.Decides.{nat_tests}
 use Rattle.mx_base.specs.declared.entry.Entry.{Entry}
 use Rattle.mx_hfile.specs.Encoding.{AreEntries, number, encoding}
-use Rattle.mx_hfile.specs.Decoding.{◌>>=◌, passing, number_in, expected_in, placed, file_in}
-use Rattle.mx_hfile.proofs.FieldLemmas.{IsBytes, Took, Took-then, bind_ok, ok_is, passing_again, passing_takes, wide64, number_codec, expected_takes, expected_again}
+use Rattle.mx_lists.specs.Reading.{◌>>=◌, passing}
+use Rattle.mx_hfile.specs.Decoding.{number_in, expected_in, placed, file_in}
+use Rattle.mx_lists.proofs.Codecs.{IsBytes, Took, Took-then, bind_ok, ok_is}
+use Rattle.mx_hfile.proofs.FieldLemmas.{passing_again, passing_takes, wide64, number_codec, expected_takes, expected_again}
 use Rattle.mx_hfile.proofs.DataLemmas.{place_ok}
 use Rattle.mx_hfile.proofs.FileLemmas.{file_takes, file_again}
 use Rattle.mx_log.specs.declared.error.LogError.{LogError}

@@ -4,7 +4,8 @@ use Rattle.std.specs.Int.{w16, w64}
 use Rattle.std.specs.Global.{Vec}
 use Rattle.mx_base.specs.declared.entry.Entry.{Entry}
 use Rattle.mx_hfile.specs.Encoding.{number}
-use Rattle.mx_hfile.specs.Decoding.{◌>>=◌, Reader, passing, number_in, expected_in, file_in, placed}
+use Rattle.mx_lists.specs.Reading.{◌>>=◌, Reader, passing}
+use Rattle.mx_hfile.specs.Decoding.{number_in, expected_in, file_in, placed}
 use Rattle.mx_log.specs.declared.error.LogError.{LogError}
 use Rattle.mx_log.specs.declared.error.LogError.TheVariants as errors
 use Rattle.mx_log.specs.Encoding.{log_magic}

@@ -2,7 +2,8 @@ ghost use Rattle.std.specs.Prelude.{◌≡◌, ◌≤◌, List, ℕ, length, IfO
 ghost use Rattle.std.specs.Int.{w16, w64};
 ghost use Rattle.mx_base.specs.declared.entry.Entry.{Entry};
 ghost use Rattle.mx_hfile.specs.Encoding.{AreEntries, encoding};
-ghost use Rattle.mx_hfile.specs.Decoding.{passing, number_in, expected_in};
+ghost use Rattle.mx_lists.specs.Reading.{passing};
+ghost use Rattle.mx_hfile.specs.Decoding.{number_in, expected_in};
 ghost use Rattle.mx_log.specs.Encoding.{IsMoment, log_encoding};
 ghost use Rattle.mx_log.specs.Decoding.{Shows, Decodes, IsOnly, is_moment, header_in, log_in};
 

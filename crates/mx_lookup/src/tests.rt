@@ -3,58 +3,14 @@ ghost use Rattle.std.specs.Prelude.{◌≡◌, IfOk, None};
 use crate::look_up;
 use mx_ask::{FileSize, Question, Reply};
 use mx_base::{Instant, Part, Partition, Path};
-use mx_lists::{Bytes, Listed, Text};
+use mx_lists::{Listed, Text};
 use mx_props::Props;
 use mx_schema::Schema;
-use mx_store::{MemStore, Store, StoreError};
+use mx_store::{MemStore, QuietStore, Store};
 use mx_world::{Mirror, World};
 use std::alloc::Global;
 use std::marker::Brand;
 use std::test::Fail;
-
-// A store in memory that tells nothing, as one over a disk does.
-#[derive(Drop)]
-struct Quiet {
-    inner: MemStore,
-}
-
-impl Store for Quiet {
-    ghost journal = { λ s. None };
-
-    ghost reads = { λ s. None };
-
-    ghost faults = { λ s. s.inner.faults };
-
-    fn list(&mut self, alloc: Global, prefix: &str) -> Result<Listed<Path>, StoreError> {
-        self.inner.list(alloc, prefix)
-    }
-
-    fn get(&mut self, alloc: Global, path: &Path) -> Result<Option<Bytes>, StoreError> {
-        self.inner.get(alloc, path)
-    }
-
-    fn get_range(
-        &mut self,
-        alloc: Global,
-        path: &Path,
-        at: u64,
-        len: u64,
-    ) -> Result<Option<Bytes>, StoreError> {
-        self.inner.get_range(alloc, path, at, len)
-    }
-
-    fn create(&mut self, alloc: Global, path: &Path, bytes: &[u8]) -> Result<bool, StoreError> {
-        self.inner.create(alloc, path, bytes)
-    }
-
-    fn put(&mut self, alloc: Global, path: &Path, bytes: &[u8]) -> Result<(), StoreError> {
-        self.inner.put(alloc, path, bytes)
-    }
-
-    fn delete(&mut self, alloc: Global, path: &Path) -> Result<bool, StoreError> {
-        self.inner.delete(alloc, path)
-    }
-}
 
 const FIRST: u64 = 20_250_101_000_000_000;
 
@@ -106,25 +62,25 @@ fn instant(number: u64) -> Result<Instant, Fail> {
 }
 
 // A table of the first so many objects, whose store's call of this number behind their creates fails.
-fn table(alloc: Global, count: usize, failing: u64) -> Result<World<Quiet, Brand>, Fail>
+fn table(alloc: Global, count: usize, failing: u64) -> Result<World<QuietStore, Brand>, Fail>
     ensures sure { IfOk result (λ table. table.doubt ≡ None) }
 {
-    let mut inner = MemStore::empty(alloc);
+    let mut store = MemStore::empty(alloc);
     let mut paths = Listed::new(alloc);
     for (path, bytes) in OBJECTS.iter().take(count) {
         let path = Path::parse(alloc, path)?;
-        inner.create(alloc, &path, bytes)?;
+        store.create(alloc, &path, bytes)?;
         paths.push(path)?;
     }
-    inner.fail((count as u64).saturating_add(failing), false)?;
+    store.fail((count as u64).saturating_add(failing), false)?;
     let mirror = Mirror::of(alloc, config(alloc)?, paths.as_slice(), &[])?;
-    Ok(World::over(Quiet { inner }, mirror, instant(FIRST + 2)?, 0))
+    Ok(World::over(QuietStore::over(store), mirror, instant(FIRST + 2)?, 0))
 }
 
 // The instant that was looked up, and the sizes that were found in the order of their names; 9 stands for a failed look-up.
 fn seen_at(
     alloc: Global,
-    table: &mut World<Quiet, Brand>,
+    table: &mut World<QuietStore, Brand>,
     question: &Question,
     asked: Option<Instant>,
 ) -> Result<(u64, u64, u64), Fail>

@@ -11,7 +11,7 @@ use Rattle.mx_merge.specs.declared.known.Known.TheVariants.{Said}
 use Rattle.mx_merge.specs.declared.error.MergeError.{MergeError}
 use Rattle.mx_merge.specs.declared.error.MergeError.TheVariants.{NoMemory, BadPayload}
 use Rattle.mx_merge.specs.Said.{KnownMap, known_at, entry_on, IsKnown, IsShown, AreEntries, TellsAll, FailsBy}
-use Rattle.mx_merge.proofs.MetLemmas.{R}
+use Rattle.mx_lists.proofs.TreeLemmas.{R}
 
 pub known_here : (m : KnownMap) (key : List ℕ) (known : Known) → tree.get R m key ≡ Some known → ((k : List ℕ) → IsKnown (known_at m k)) → IsKnown known
 known_here m key known at kept = subst (λ (o : Option Known). IsKnown (unwrap_or o (Said runs.Nothing))) at (kept key)

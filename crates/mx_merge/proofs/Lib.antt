@@ -1,4 +1,3 @@
-pub mod TreeLemmas
 pub mod SizeLemmas
 pub mod RunLemmas
 pub mod ValueLemmas

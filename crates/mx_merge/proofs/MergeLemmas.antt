@@ -9,7 +9,7 @@ use Rattle.std.specs.BTreeMap as tree
 use Rattle.std.specs.Ordering.{is_eq, is_lt}
 use Rattle.std.specs.declared.cmp.Ordering.{Ordering}
 use Rattle.std.specs.declared.cmp.Ordering.TheVariants.{Less, Equal, Greater}
-use Rattle.std.specs.Cmp.{tied_itself}
+use Rattle.std.specs.Cmp.{tied_itself, Equal-is}
 use Rattle.std.specs.Cmp.Lexicographic.{nat_list_cmp_total}
 use Rattle.mx_base.specs.declared.entry.Entry.{Entry}
 use Rattle.mx_payload.specs.declared.payload.Payload.{Payload}
@@ -23,13 +23,11 @@ use Rattle.mx_merge.specs.declared.known.Known.TheVariants.{Said, Bad}
 use Rattle.mx_merge.specs.declared.error.MergeError.{MergeError}
 use Rattle.mx_merge.specs.declared.error.MergeError.TheVariants.{NoMemory, BadPayload}
 use Rattle.mx_merge.specs.Shown.{shown}
-use Rattle.mx_merge.specs.Merged.{values_on_key, payload_of, read_payload, payloads_on_key, shown_on, AreRead, first_bad, IsFirstBad, AreMerged, Merges}
+use Rattle.mx_merge.specs.Merged.{values_on_key, payload_of, payloads_on_key, shown_on, AreRead, first_bad, IsFirstBad, AreMerged, Merges}
 use Rattle.mx_merge.specs.Said.{shown_run, heard, KnownMap, known_at, asked, entry_with, entry_on, shown_known, IsShown, AreEntries, StopsAt, TellsAll}
-use Rattle.mx_merge.proofs.TreeLemmas.{turned}
-use Rattle.mx_merge.proofs.SizeLemmas.{equal_is}
+use Rattle.mx_lists.proofs.TreeLemmas.{R, turned, tied}
 use Rattle.mx_merge.proofs.RunLemmas.{shown_is}
 use Rattle.mx_merge.proofs.ValueLemmas.{IsOf, is_of}
-use Rattle.mx_merge.proofs.MetLemmas.{R, same_test}
 
 abbrev Met : Type 0
 Met = List (List ℕ × Known)
@@ -51,7 +49,7 @@ all_above key x [] up all = tt
 all_above key x (e ∷ es) up all = (up e.0 all.0, all_above key x es up all.1)
 
 tied_none : (key x : List ℕ) (es : Met) → is_eq (R key x) ≡ true → AllByRecursion (λ y. R x y ≡ Less) (keys_of es) → found_in key es ≡ None
-tied_none key x es tie all = above_none key es (all_above key x es (λ y step. nat_list_cmp_total.congr key x y (equal_is _ tie) ∙ step) all)
+tied_none key x es tie all = above_none key es (all_above key x es (λ y step. nat_list_cmp_total.congr key x y ((Equal-is _).0 tie) ∙ step) all)
 
 abbrev with_front : Option Entry → List Entry → List Entry
 with_front None es = es
@@ -91,7 +89,7 @@ values_are : (key : List ℕ) (es : Met) → IsStrictlySortedBy R (keys_of es) �
 unfolding IsStrictlySortedBy
 values_are key [] sorted = refl
 values_are key (e ∷ es) sorted =
-    values_step key e (filter_map entry_on es) (found_in key es) (is_eq (R key e.0)) (shown_known e.1) (same_test e.0 key ∙ turned e.0 key) refl refl (λ tie. tied_none key e.0 es tie sorted.0) (values_are key es sorted.1)
+    values_step key e (filter_map entry_on es) (found_in key es) (is_eq (R key e.0)) (shown_known e.1) (sym (tied e.0 key)) refl refl (λ tie. tied_none key e.0 es tie sorted.0) (values_are key es sorted.1)
 
 -- ---- no bad value
 

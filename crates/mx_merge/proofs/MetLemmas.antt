@@ -1,50 +1,26 @@
 -- What is known of each key while entries are read.
-use Rattle.std.proofs.Common.{◌≡◌, ℕ, suc, ◌<◌, ◌+◌, drop, get_or, add-one, drop-cons, Bool, true, false, cond, List, [], ◌∷◌, length, Option, Some, Result, Ok, Err, refl, sym, ◌∙◌, ap}
-use Rattle.std.specs.Prelude.{bytes_eq, nat_eq, OnOk, unwrap_or}
+use Rattle.std.proofs.Common.{◌≡◌, ℕ, suc, ◌<◌, ◌+◌, drop, get_or, add-one, drop-cons, Bool, true, false, cond, List, [], ◌∷◌, length, Option, Some, refl, sym, ◌∙◌, ap}
+use Rattle.std.specs.Prelude.{bytes_eq, nat_eq, unwrap_or}
 use Rattle.std.proofs.lemmas.Slice.Eq.{bytes_eq-Decides}
 use Rattle.std.specs.List.{fold, starts_with}
 use Rattle.std.specs.BTreeMap as tree
-use Rattle.std.specs.Ordering.{nat_cmp, is_eq}
-use Rattle.std.specs.declared.cmp.Ordering.{Ordering}
-use Rattle.std.specs.Cmp.{tied_itself}
-use Rattle.std.specs.Cmp.Lexicographic.{slice_cmp, nat_list_cmp_total}
+use Rattle.std.specs.Ordering.{is_eq}
+use Rattle.std.specs.Cmp.Lexicographic.{texts_ties}
 use Rattle.mx_base.specs.declared.entry.Entry.{Entry}
 use Rattle.mx_merge.specs.declared.run.Run.TheVariants as runs
 use Rattle.mx_merge.specs.declared.known.Known.{Known}
 use Rattle.mx_merge.specs.declared.known.Known.TheVariants.{Said}
 use Rattle.mx_merge.specs.Said.{heard, known_at, asked, KnownMap}
-use Rattle.mx_merge.proofs.SizeLemmas.{same_name}
-
-pub on_ok : {X E A B : Type 0} (r : Result X E) → (A → B) → OnOk r A → OnOk r B
-on_ok (Ok x) f h = f h
-on_ok (Err e) f h = tt
-
-pub at_itself : (x : List ℕ) → bytes_eq x x ≡ true
-at_itself x = (bytes_eq-Decides x x).1 refl
-
-abbrev pub R : List ℕ → List ℕ → Ordering
-R = slice_cmp nat_cmp
-
--- two keys are the same bytes where they tie
-pub same_test : (x y : List ℕ) → bytes_eq x y ≡ is_eq (R x y)
-same_test x y = by_test (is_eq (R x y)) refl (bytes_eq x y) refl
-  where
-    by_test : (b : Bool) → is_eq (R x y) ≡ b → (t : Bool) → bytes_eq x y ≡ t → bytes_eq x y ≡ is_eq (R x y)
-    by_test true tie t e = ap (bytes_eq x) (sym (same_name x y tie)) ∙ at_itself x ∙ sym tie
-    by_test false tie false e = e ∙ sym tie
-    by_test false tie true e =
-        let same : x ≡ y = (bytes_eq-Decides x y).0 e in
-        let tied : is_eq (R x y) ≡ true = ap (λ (z : List ℕ). is_eq (R x z)) (sym same) ∙ ap is_eq (tied_itself nat_list_cmp_total x) in
-        e ∙ sym tied
+use Rattle.mx_lists.proofs.TreeLemmas.{R, same_key}
 
 module _ (m n : KnownMap) (k value : List ℕ) (found : Option Known) (after : Known) (at : found ≡ tree.get R m k) (is : after ≡ heard (unwrap_or found (Said runs.Nothing)) value) (updates : tree.Updates R m n k (Some after)) where
   pub met : (key : List ℕ) → known_at n key ≡ cond (bytes_eq k key) (heard (known_at m key) value) (known_at m key)
-  met key = ap (λ (o : Option Known). unwrap_or o (Said runs.Nothing)) (updates.0 key) ∙ by_test (is_eq (R k key)) refl ∙ ap (λ (b : Bool). cond b (heard (known_at m key) value) (known_at m key)) (sym (same_test k key))
+  met key = ap (λ (o : Option Known). unwrap_or o (Said runs.Nothing)) (updates.0 key) ∙ by_test (is_eq (R k key)) refl ∙ ap (λ (b : Bool). cond b (heard (known_at m key) value) (known_at m key)) (sym (texts_ties k key))
     where
       by_test : (b : Bool) → is_eq (R k key) ≡ b → unwrap_or (cond (is_eq (R k key)) (Some after) (tree.get R m key)) (Said runs.Nothing) ≡ cond (is_eq (R k key)) (heard (known_at m key) value) (known_at m key)
       by_test false tie = rw tie refl
       by_test true tie =
-          let here : unwrap_or found (Said runs.Nothing) ≡ known_at m key = ap (λ (o : Option Known). unwrap_or o (Said runs.Nothing)) at ∙ ap (known_at m) (same_name k key tie) in
+          let here : unwrap_or found (Said runs.Nothing) ≡ known_at m key = ap (λ (o : Option Known). unwrap_or o (Said runs.Nothing)) at ∙ ap (known_at m) (same_key k key tie) in
           rw tie (is ∙ ap (λ (x : Known). heard x value) here)
 
 -- ---- one entry after the other

@@ -1,68 +1,35 @@
 -- The sizes that words leave.
-use Rattle.std.proofs.Common.{◌≡◌, ℕ, Bool, true, false, cond, ◌&&◌, List, [], ◌∷◌, length, map, Option, Some, None, refl, sym, ◌∙◌, ap, subst, arith}
+use Rattle.std.proofs.Common.{◌≡◌, ℕ, Bool, true, false, cond, List, [], ◌∷◌, length, map, Option, Some, None, refl, sym, ◌∙◌, ap, subst, arith}
 use Rattle.std.specs.Option.{option_or, option_map}
 use Rattle.std.specs.List.{AllByRecursion}
-use Rattle.std.specs.Ordering.{nat_cmp, eq_by_cmp, is_eq, is_lt}
-use Rattle.std.specs.declared.cmp.Ordering.{Ordering}
-use Rattle.std.specs.declared.cmp.Ordering.TheVariants.{Less, Equal, Greater}
+use Rattle.std.specs.Ordering.{eq_by_cmp, is_eq}
+use Rattle.std.specs.declared.cmp.Ordering.TheVariants.{Equal}
 use Rattle.std.specs.Cmp.{tied_itself}
-use Rattle.std.specs.Cmp.Lexicographic.{slice_cmp, nat_list_cmp_total}
+use Rattle.std.specs.Cmp.Lexicographic.{nat_list_cmp_total}
 use Rattle.std.specs.FinMap as finmap
 use Rattle.std.specs.FinMap.Entries.{find, below_all, is_sorted}
+use Rattle.std.proofs.lemmas.Iterator.Adapters.{option_map_id}
+use Rattle.mx_lists.proofs.Plain.{first, second, truth}
+use Rattle.mx_lists.proofs.TreeLemmas.{R, same_key, same_map, find_later}
 use lib.Dec.{T}
 use Rattle.mx_payload.specs.declared.payload.NameWord.{NameWord}
 use Rattle.mx_payload.specs.Rules.{IsText, IsLong, IsWord, AreWords, RisesFrom, plain}
 use Rattle.mx_merge.specs.Shown.{SizeMap, with_word, sizes_left, words_with}
 use Rattle.mx_merge.specs.Said.{AreLong}
 
-abbrev R : List ℕ → List ℕ → Ordering
-R = slice_cmp nat_cmp
-
-pub equal_is : (o : Ordering) → is_eq o ≡ true → o ≡ Equal
-equal_is Less h = absurd cc
-equal_is Equal h = refl
-equal_is Greater h = absurd cc
-
-less_is : (o : Ordering) → T (is_lt o) → o ≡ Less
-less_is Less h = refl
-less_is Equal h = absurd h
-less_is Greater h = absurd h
-
-pub same_name : (x y : List ℕ) → eq_by_cmp R x y ≡ true → x ≡ y
-same_name x y e = finmap.slice_cmp-IsAntisymmetric finmap.nat_cmp-IsAntisymmetric x y (equal_is (R x y) e)
-
-first : (a b : Bool) → T (a && b) → T a
-first true b h = tt
-first false b h = absurd h
-
-second : (a b : Bool) → T (a && b) → T b
-second true b h = h
-second false b h = absurd h
-
-is_true : (b : Bool) → T b → b ≡ true
-is_true true h = refl
-is_true false h = absurd h
-
 module _ {X : Type 0} where
-  -- a name that ties with one below all others is none of them
-  below-find : (x q : List ℕ) (es : List (List ℕ × X)) → R q x ≡ Equal → T (below_all R x es) → find R q es ≡ None
-  below-find x q [] tie below = refl
-  below-find x q (e ∷ es) tie below =
-      let step : R q e.0 ≡ Less = nat_list_cmp_total.congr q x e.0 tie ∙ less_is _ (first _ _ below) in
-      rw step (below-find x q es tie (second _ _ below))
-
   -- what holds of each size that is found holds of each entry
   all_found : (P : List ℕ → X → Type 0) (es : List (List ℕ × X)) → T (is_sorted R es) → ((q : List ℕ) (v : X) → find R q es ≡ Some v → P q v) → AllByRecursion (λ e. P e.0 e.1) es
   all_found P [] sorted found = tt
   all_found P (e ∷ es) sorted found =
       let itself : R e.0 e.0 ≡ Equal = tied_itself nat_list_cmp_total e.0 in (
         found e.0 e.1 (rw itself refl),
-        all_found P es (second _ _ sorted) (λ q v at. found q v (apart e es q v (is_eq (R q e.0)) refl (first _ _ sorted) at)),
+        all_found P es (second _ _ sorted) (λ q v at. found q v (apart e es q v (is_eq (R q e.0)) refl sorted at)),
       )
     where
-      apart : (e : List ℕ × X) (es : List (List ℕ × X)) (q : List ℕ) (v : X) (b : Bool) → is_eq (R q e.0) ≡ b → T (below_all R e.0 es) → find R q es ≡ Some v → cond (is_eq (R q e.0)) (Some e.1) (find R q es) ≡ Some v
-      apart e es q v false tie below at = rw tie at
-      apart e es q v true tie below at = absurd (nothing_found v (sym (below-find e.0 q es (equal_is _ tie) below) ∙ at))
+      apart : (e : List ℕ × X) (es : List (List ℕ × X)) (q : List ℕ) (v : X) (b : Bool) → is_eq (R q e.0) ≡ b → T (is_sorted R (e ∷ es)) → find R q es ≡ Some v → cond (is_eq (R q e.0)) (Some e.1) (find R q es) ≡ Some v
+      apart e es q v false tie sorted at = rw tie at
+      apart e es q v true tie sorted at = absurd (nothing_found v (sym (find_later q e es sorted tie) ∙ at))
         where
           nothing_found : (w : X) → None ≡ Some w → ⊥
           nothing_found w e = absurd cc
@@ -74,7 +41,7 @@ word_by f e = record { name = e.0; size = f e.1; deleted = false }
 
 rising_by : (f : ℕ → ℕ) (x : List ℕ) (es : List (List ℕ × ℕ)) → T (below_all R x es) → T (is_sorted R es) → RisesFrom (Some x) (map (word_by f) es)
 rising_by f x [] below sorted = tt
-rising_by f x (e ∷ es) below sorted = (is_true _ (first _ _ below), rising_by f e.0 es (first _ _ sorted) (second _ _ sorted))
+rising_by f x (e ∷ es) below sorted = (truth _ (first _ _ below), rising_by f e.0 es (first _ _ sorted) (second _ _ sorted))
 
 rising_all : (f : ℕ → ℕ) (es : List (List ℕ × ℕ)) → T (is_sorted R es) → RisesFrom None (map (word_by f) es)
 rising_all f [] sorted = tt
@@ -121,7 +88,7 @@ put_by f q (e ∷ es) sizes sorted =
     ∙ by_test (is_eq (R q e.0)) refl
   where
     by_test : (b : Bool) → is_eq (R q e.0) ≡ b → option_or (option_map f (find R q es)) (cond (is_eq (R q e.0)) (Some (f e.1)) (finmap.get sizes q)) ≡ option_or (option_map f (cond (is_eq (R q e.0)) (Some e.1) (find R q es))) (finmap.get sizes q)
-    by_test true tie = rw (tie, below-find e.0 q es (equal_is _ tie) (first _ _ sorted)) refl
+    by_test true tie = rw (tie, find_later q e es sorted tie) refl
     by_test false tie = rw tie refl
 
 or_none : (o : Option ℕ) → option_or o None ≡ o
@@ -129,19 +96,15 @@ or_none None = refl
 or_none (Some x) = refl
 
 put_again : (f : ℕ → ℕ) (sizes : SizeMap) → ((q : List ℕ) → option_map f (finmap.get sizes q) ≡ finmap.get sizes q) → sizes_left finmap.empty (map (word_by f) (finmap.entries sizes)) ≡ sizes
-put_again f sizes same = finmap.same_map nat_list_cmp_total (finmap.slice_cmp-IsAntisymmetric finmap.nat_cmp-IsAntisymmetric) _ _ (λ q.
+put_again f sizes same = same_map _ _ (λ q.
     put_by f q (finmap.entries sizes) finmap.empty (finmap.entries_sorted sizes)
     ∙ ap (option_or (option_map f (find R q (finmap.entries sizes)))) (finmap.get-empty R q)
     ∙ or_none (option_map f (find R q (finmap.entries sizes)))
     ∙ ap (option_map f) (sym (finmap.get-entries sizes q))
     ∙ same q)
 
-map_same : (o : Option ℕ) → option_map (λ n. n) o ≡ o
-map_same None = refl
-map_same (Some x) = refl
-
 pub words_again : (sizes : SizeMap) → sizes_left finmap.empty (words_with sizes) ≡ sizes
-words_again sizes = put_again (λ n. n) sizes (λ q. map_same (finmap.get sizes q))
+words_again sizes = put_again (λ n. n) sizes (λ q. option_map_id (finmap.get sizes q))
 
 -- names alone have no sizes
 abbrev pub AreBare : SizeMap → Type 0
@@ -171,7 +134,7 @@ module _ (P : List ℕ → ℕ → Type 0) where
   inserted sizes k n p all name size e = by_test (eq_by_cmp R name k) refl (sym (finmap.get-insert nat_list_cmp_total sizes k n name) ∙ e)
     where
       by_test : (b : Bool) → eq_by_cmp R name k ≡ b → cond (eq_by_cmp R name k) (Some n) (finmap.get sizes name) ≡ Some size → P name size
-      by_test true tie e = subst (λ (x : List ℕ). P x size) (sym (same_name name k tie)) (subst (P k) (some_is n size (rw tie at e)) p)
+      by_test true tie e = subst (λ (x : List ℕ). P x size) (sym (same_key name k tie)) (subst (P k) (some_is n size (rw tie at e)) p)
       by_test false tie e = all name size (rw tie at e)
 
   removed : (sizes : SizeMap) (k : List ℕ) → Holds sizes → Holds (finmap.remove sizes k)

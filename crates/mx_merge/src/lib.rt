@@ -14,6 +14,7 @@
 //! | `look` | what one key shows, as an entry |
 //! | `scan` | what the keys with a prefix show, in the order of keys |
 //! | `merge` | what all keys show, in the order of keys |
+//! | `Sizes` | sizes by names, as a finite map |
 //! | `what_is_shown_may_be_merged_again` | merged entries may stand in the place of those that they were merged from |
 #![tactic(auto)]
 
@@ -31,6 +32,7 @@ pub use laws::what_is_shown_may_be_merged_again;
 pub use log::Log;
 pub use looking::{look, payload_on};
 pub use merging::{merge, scan};
+pub use sizes::Sizes;
 
 #[cfg(test)]
 mod tests;

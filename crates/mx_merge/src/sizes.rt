@@ -1,4 +1,4 @@
-ghost use Rattle.std.specs.Prelude.{◌≡◌, map, length, IfOk, OnOk};
+ghost use Rattle.std.specs.Prelude.{◌≡◌, map, length, IfOk, OnOk, OnErr};
 ghost use Rattle.std.specs.FinMap as finmap;
 ghost use Rattle.mx_payload.specs.Rules.{IsLong, plain};
 ghost use Rattle.mx_merge.specs.Shown.{with_word, sizes_left, words_with};
@@ -11,7 +11,7 @@ use std::marker::Model;
 
 /// Sizes by names, which contracts see as a finite map.
 #[derive(Drop)]
-pub(crate) struct Sizes {
+pub struct Sizes {
     sizes: BTreeMap<Text, u64>,
 }
 
@@ -28,12 +28,28 @@ impl Model for Sizes {
 }
 
 impl Sizes {
-    pub(crate) fn new(alloc: Global) -> Sizes
+    pub fn new(alloc: Global) -> Sizes
         ensures { result ≡ finmap.empty }
     {
         Sizes {
             sizes: BTreeMap::new(alloc),
         }
+    }
+
+    /// The name has the size from here on.
+    pub fn insert(&mut self, name: Text, size: u64) -> Result<(), AllocError>
+        ensures ok { OnOk result (self.new ≡ finmap.insert self.old name size) }
+        ensures err { OnErr result (self.new ≡ self.old) }
+    {
+        self.sizes.insert(name, size)?;
+        Ok(())
+    }
+
+    /// The sizes, in byte order of names.
+    pub fn tree(&self) -> &BTreeMap<Text, u64>
+        ensures { finmap.from_entries result.now.entries ≡ self.now }
+    {
+        &self.sizes
     }
 
     /// The word goes over what was said of its name.
@@ -44,8 +60,7 @@ impl Sizes {
             self.sizes.remove(&word.name);
             return Ok(());
         }
-        self.sizes.insert(word.name, word.size)?;
-        Ok(())
+        self.insert(word.name, word.size)
     }
 
     /// A word for each name, in byte order of names.

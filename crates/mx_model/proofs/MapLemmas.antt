@@ -1,8 +1,7 @@
 -- What the maps say of one partition, and of the newest instant.
-use Rattle.std.proofs.Common.{◌≡◌, ◌≤◌, ℕ, Bool, true, false, cond, List, [], ◌∷◌, Option, Some, refl, sym, ◌∙◌, ap, arith}
+use Rattle.std.proofs.Common.{◌≡◌, ◌≤◌, ℕ, Bool, true, false, cond, List, [], ◌∷◌, Option, Some, refl, ◌∙◌, ap, arith}
 use Rattle.std.specs.Prelude.{unwrap_or, bytes_eq, nat_le, fold}
-use Rattle.std.specs.Ordering.{nat_cmp, eq_by_cmp}
-use Rattle.std.specs.Cmp.Lexicographic.{slice_cmp, nat_list_cmp_total, texts_ties}
+use Rattle.std.specs.Cmp.Lexicographic.{nat_list_cmp_total}
 use Rattle.std.specs.FinMap as finmap
 use Rattle.std.proofs.lemmas.Slice.Eq.{bytes_eq-Decides}
 use Rattle.std.proofs.lemmas.Bool.Decides.{nat_tests}
@@ -12,13 +11,10 @@ use Rattle.mx_model.specs.Timeline.{actions_upto, newest}
 use Rattle.mx_merge.specs.Shown.{SizeMap}
 use Rattle.mx_files.specs.Files.{FilesMap, name_of, sizes_in, with_file, files_map}
 use Rattle.mx_model.specs.Maps.{with_file_in}
-use Rattle.mx_model.proofs.SizeLemmas.{turned}
+use Rattle.mx_lists.proofs.TreeLemmas.{R, tied}
 
 -- one more file changes the sizes of its own partition
 module _ (files : FilesMap) (file : FileAt) (partition : List ℕ) where
-  same_key : eq_by_cmp (slice_cmp nat_cmp) partition file.partition ≡ bytes_eq file.partition partition
-  same_key = turned partition file.partition ∙ sym (texts_ties file.partition partition)
-
   chosen : (b : Bool) → bytes_eq file.partition partition ≡ b →
       unwrap_or (cond b (Some (finmap.insert (sizes_in files file.partition) (name_of file) file.size)) (finmap.get files partition)) finmap.empty ≡ cond b (finmap.insert (sizes_in files partition) (name_of file) file.size) (sizes_in files partition)
   chosen true is = ap (λ (p : List ℕ). finmap.insert (sizes_in files p) (name_of file) file.size) ((bytes_eq-Decides file.partition partition).0 is)
@@ -28,7 +24,7 @@ module _ (files : FilesMap) (file : FileAt) (partition : List ℕ) where
   sizes_in-with_file =
       let grown : SizeMap = finmap.insert (sizes_in files file.partition) (name_of file) file.size in
       ap (λ (o : Option SizeMap). unwrap_or o finmap.empty) (finmap.get-insert nat_list_cmp_total files file.partition grown partition)
-      ∙ ap (λ (b : Bool). unwrap_or (cond b (Some grown) (finmap.get files partition)) finmap.empty) same_key
+      ∙ ap (λ (b : Bool). unwrap_or (cond b (Some grown) (finmap.get files partition)) finmap.empty) (tied file.partition partition)
       ∙ chosen (bytes_eq file.partition partition) refl
 
 sizes_in-fold : (files : List FileAt) (partition : List ℕ) (map : FilesMap) → sizes_in (fold with_file map files) partition ≡ fold (with_file_in partition) (sizes_in map partition) files
@@ -41,7 +37,7 @@ sizes_in-fold (file ∷ files) partition map =
 pub sizes_in-files_map : (files : List FileAt) (partition : List ℕ) → sizes_in (files_map files) partition ≡ fold (with_file_in partition) finmap.empty files
 sizes_in-files_map files partition =
     sizes_in-fold files partition finmap.empty
-    ∙ ap (λ (o : Option SizeMap). fold (with_file_in partition) (unwrap_or o finmap.empty) files) (finmap.get-empty (slice_cmp nat_cmp) partition)
+    ∙ ap (λ (o : Option SizeMap). fold (with_file_in partition) (unwrap_or o finmap.empty) files) (finmap.get-empty R partition)
 
 -- every action is at most at an instant that none is above
 upto_all : (actions : List Action) (at : ℕ) → newest actions ≤ at → actions_upto actions at ≡ actions

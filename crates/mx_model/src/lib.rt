@@ -20,7 +20,6 @@ mod action;
 mod laws;
 mod maps;
 mod program;
-mod sizes;
 #[cfg(test)]
 mod tests;
 

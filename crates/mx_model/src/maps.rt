@@ -3,10 +3,10 @@ ghost use Rattle.std.specs.FinMap as finmap;
 ghost use Rattle.mx_files.specs.Files.{sizes_in, with_file};
 ghost use Rattle.mx_model.specs.Answer.{file_sizes};
 
-use crate::sizes::Sizes;
 use mx_ask::FileSize;
 use mx_base::{FileAt, Partition, data_file_name};
 use mx_lists::{Listed, Text};
+use mx_merge::Sizes;
 use std::alloc::{AllocError, Global};
 use std::collections::BTreeMap;
 use std::marker::Model;
@@ -86,8 +86,22 @@ impl Maps {
         ensures { IfOk result (λ files. files ≡ file_sizes (sizes_in self.now partition.now)) }
     {
         match self.partitions.get(partition) {
-            Some(sizes) => sizes.file_sizes(alloc),
+            Some(sizes) => names_and_sizes(alloc, sizes),
             None => Ok(Listed::new(alloc)),
         }
     }
+}
+
+/// The names and sizes, in byte order of names.
+fn names_and_sizes(alloc: Global, sizes: &Sizes) -> Result<Listed<FileSize>, AllocError>
+    ensures { IfOk result (λ files. files ≡ file_sizes sizes.now) }
+{
+    let mut files = Listed::new(alloc);
+    for (name, size) in sizes.tree().iter() {
+        files.push(FileSize {
+            name: name.clone()?,
+            size: *size,
+        })?;
+    }
+    Ok(files)
 }

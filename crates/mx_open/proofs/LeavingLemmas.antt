@@ -11,7 +11,7 @@ use Rattle.std.specs.List.Sorted.{IsStrictlySortedBy}
 use Rattle.std.specs.Option.{option_map_or}
 use Rattle.std.specs.Ordering.{nat_cmp, eq_by_cmp}
 use Rattle.std.specs.Str.{bytes_eq}
-use Rattle.std.proofs.lemmas.Bool.{and_parts, false_from_ne_true, not_from_false}
+use Rattle.std.proofs.lemmas.Bool.{and_parts, and_from, false_from_ne_true, not_from_false}
 use Rattle.std.proofs.lemmas.Bool.Decides.{nat_tests, Decides-ltb}
 use Rattle.std.proofs.lemmas.List.{take_more}
 use Rattle.std.proofs.lemmas.List.Elements.{All-contains, All-map, All-contains_itself, All-weaker}
@@ -23,7 +23,6 @@ use Rattle.mx_base.specs.Objects.{is_object_name, IsObjectName, is_instant, obje
 use Rattle.mx_base.specs.Paths.{commit_instant}
 use Rattle.mx_base.specs.declared.object_name.ObjectName.{ObjectName}
 use Rattle.mx_base.specs.declared.object_name.ObjectName.TheVariants.{Log}
-use Rattle.mx_base.proofs.NameLemmas.{both}
 use Rattle.mx_base.proofs.ObjectLemmas.{object_path-commit}
 use Rattle.mx_base.proofs.PathLemmas.{IsCommitAt-commit_instant, commit_instant-commit_path}
 use Rattle.mx_meta.specs.PathLists.{path_list_of}
@@ -76,12 +75,12 @@ begun_path q path is =
 
 path_requested : (q : ℕ) (path : List ℕ) → IsObjectName (requested_name q) → path ≡ object_path (requested_name q) → begins q path ≡ true
 path_requested q path named is =
-    both (is_object_name (requested_name q)) (bytes_eq path (object_path (requested_name q)) || bytes_eq path (object_path (inflight_name q))) named
+    and_from (is_object_name (requested_name q)) (bytes_eq path (object_path (requested_name q)) || bytes_eq path (object_path (inflight_name q))) named
     (or_left (bytes_eq path (object_path (requested_name q))) (bytes_eq path (object_path (inflight_name q))) ((bytes_eq-Decides path (object_path (requested_name q))).1 is))
 
 path_inflight : (q : ℕ) (path : List ℕ) → IsObjectName (inflight_name q) → path ≡ object_path (inflight_name q) → begins q path ≡ true
 path_inflight q path named is =
-    both (is_object_name (requested_name q)) (bytes_eq path (object_path (requested_name q)) || bytes_eq path (object_path (inflight_name q))) named
+    and_from (is_object_name (requested_name q)) (bytes_eq path (object_path (requested_name q)) || bytes_eq path (object_path (inflight_name q))) named
     (or_right (bytes_eq path (object_path (requested_name q))) (bytes_eq path (object_path (inflight_name q))) ((bytes_eq-Decides path (object_path (inflight_name q))).1 is))
 
 -- ---- the commit that a path completes
@@ -93,7 +92,7 @@ commit_is path q test = from (commit_instant path) refl test
     from None is test = absurd (cc test)
     from (Some n) is test =
         let found = IsCommitAt-commit_instant path q (is ∙ ap (λ (x : ℕ). Some x) (nat_eq-is n q test)) in
-        (both (nat_lt 0 q) (is_instant q) ((Decides-ltb 0 q).1 found.positive) ((Decides-ltb q (10 ^ 17)).1 found.small), found.is ∙ sym (object_path-commit q))
+        (and_from (nat_lt 0 q) (is_instant q) ((Decides-ltb 0 q).1 found.positive) ((Decides-ltb q (10 ^ 17)).1 found.small), found.is ∙ sym (object_path-commit q))
 
 pub commit_instant-named : (q : ℕ) → IsObjectName (commit_name q) → commit_instant (object_path (commit_name q)) ≡ Some q
 commit_instant-named q named =
@@ -157,7 +156,7 @@ module _ (o : Objects) (names : List (List ℕ)) (all : names ≡ filter is_hidd
           one : (path : List ℕ) → Contains names path → begins q path ≡ true → list_any (is_pending_by completed q) names ≡ true
           one path among test =
               list_any-from_Any (is_pending_by completed q) names
-              (among.0, path, among.1, among.2, both (begins q path) (not (contains nat_cmp completed q)) test (not_from_false (contains nat_cmp completed q) absent))
+              (among.0, path, among.1, among.2, and_from (begins q path) (not (contains nat_cmp completed q)) test (not_from_false (contains nat_cmp completed q) absent))
 
 -- ---- elements that are picked
 

@@ -1,15 +1,14 @@
 -- What is read of a file's end is what stands there.
-use Rattle.std.proofs.Common.{◌≡◌, ℕ, ◌+◌, ◌-◌, ◌^◌, ◌<◌, ◌≤◌, Bool, true, false, ◌||◌, cond, eqb, ltb, leb, get_or, List, [], ◌++◌, length, take, drop, Result, Ok, Err, refl, sym, ap, subst, ◌∙◌, arith, length-append, append_assoc, append-nil, inl, inr}
+use Rattle.std.proofs.Common.{◌≡◌, ℕ, ◌+◌, ◌-◌, ◌^◌, ◌<◌, ◌≤◌, Bool, true, false, ◌||◌, cond, eqb, ltb, leb, List, [], ◌++◌, length, take, drop, Result, Ok, Err, refl, sym, ap, subst, ◌∙◌, arith, length-append, append_assoc, append-nil}
 use Rattle.std.specs.Int.{w32, to_le_bytes, from_le_bytes}
 use Rattle.std.specs.List.{AllByRecursion}
 use Rattle.std.specs.Str.{IsUtf8}
 use Rattle.std.proofs.lemmas.Bool.{eqb-true, eq-eqb, leb-true, le-leb, ltb-false, le-ltb, or_from, or_parts}
 use Rattle.std.proofs.lemmas.Slice.Eq.{bytes_eq-Decides}
-use Rattle.std.proofs.lemmas.List.{take-take, take_at, drop_at, take-append-drop, length-take, length-drop, get_or-drop, get_or-take, get_or_past}
+use Rattle.std.proofs.lemmas.List.{take-take, take_at, drop_at, take-append-drop, length-take, length-drop}
 use Rattle.std.proofs.Math.ListN.{drop_of_length-le}
 use Rattle.std.proofs.lemmas.Nat.{le_bytes_4, from_le_bytes-to_le_bytes_4}
-use Rattle.std.proofs.lemmas.Bool.{cases_lt}
-use Rattle.mx_avro.proofs.Groups.{IsBytes}
+use Rattle.mx_lists.proofs.Codecs.{IsBytes, IsBytes-drop, IsBytes-take}
 use Rattle.mx_thrift.specs.declared.error.ThriftError.{ThriftError}
 use Rattle.mx_thrift.specs.Grammar as thrift
 use Rattle.mx_thrift.specs.Decoding.{struct_at}
@@ -50,17 +49,7 @@ pub record Frames (file : List ℕ) (at : ℕ) : Type 0 where
   pub place : at ≡ length (magic ++ front)
   pub parts : file ≡ magic ++ front ++ footer ++ number w32 (length footer) ++ magic
 
-pub drop_fits : (n : ℕ) (bytes : List ℕ) → ((i : ℕ) → get_or bytes i 0 < 256) → (i : ℕ) → get_or (drop n bytes) i 0 < 256
-drop_fits n bytes h i = rw get_or-drop (h (n + i))
-
-pub take_fits : (n : ℕ) (bytes : List ℕ) → ((i : ℕ) → get_or bytes i 0 < 256) → (i : ℕ) → get_or (take n bytes) i 0 < 256
-take_fits n bytes h i =
-    elim (cases_lt i n) [
-      | inl lt ↦ rw (get_or-take n bytes i 0 lt) (h i)
-      | inr le ↦ rw (get_or_past (take n bytes) i 0 (omega (arith, length-take n bytes))) (omega arith)
-    ]
-
-pub place_says : (file : List ℕ) (at : ℕ) → ((i : ℕ) → get_or file i 0 < 256) → footer_place file ≡ Ok at → Frames file at
+pub place_says : (file : List ℕ) (at : ℕ) → IsBytes file → footer_place file ≡ Ok at → Frames file at
 unfolding footer_place number
 place_says file at fits e =
     let len = length file in
@@ -82,7 +71,7 @@ place_says file at fits e =
     let y-len : length y ≡ len - 8 = omega (arith, length-take (len - 8) x, x-len) in
     let number-len : length number4 ≡ 4 = omega (arith, length-drop (len - 8) x, x-len) in
     let footer-len : length footer ≡ n = omega (arith, length-drop at y, y-len, t.4) in
-    let number-is : to_le_bytes w32 n ≡ number4 = le_bytes_4 number4 n number-len (drop_fits (len - 8) x (take_fits (len - 4) file fits)) refl in
+    let number-is : to_le_bytes w32 n ≡ number4 = le_bytes_4 number4 n number-len (IsBytes-drop (len - 8) x (IsBytes-take (len - 4) file fits)) refl in
     let begins : take 4 z ≡ magic =
     take-take 4 at y (omega (arith, t.4)) ∙ take-take 4 (len - 8) x (omega arith) ∙ take-take 4 (len - 4) file (omega arith) ∙ first in
     let z-is : magic ++ front ≡ z = ap (λ (m : List ℕ). m ++ front) (sym begins) ∙ take-append-drop 4 z in
@@ -213,7 +202,7 @@ file_says file layout schema rows fits e laid is_schema each =
       small = frame.small;
       parts = frame.parts;
       fields = s.0;
-      said = subst (λ (text : List ℕ). thrift.Decodes text s.0) behind (struct_says y p.0 s.0 (take_fits (length file - 8) file fits) s.1);
+      said = subst (λ (text : List ℕ). thrift.Decodes text s.0) behind (struct_says y p.0 s.0 (IsBytes-take (length file - 8) file fits) s.1);
       is_footer = layout_says file s.0 layout schema rows s.2 laid;
     }
 

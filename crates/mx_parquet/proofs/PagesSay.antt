@@ -3,7 +3,7 @@ use Rattle.std.proofs.Common.{◌≡◌, ℕ, ◌^◌, ◌<◌, Bool, true, fals
 use Rattle.std.specs.Int.{w32}
 use Rattle.std.specs.List.{AllByRecursion}
 use Rattle.std.proofs.lemmas.List.{length-take, length-map, length-replicate, drop_at}
-use Rattle.mx_avro.proofs.Groups.{IsBytes}
+use Rattle.mx_lists.proofs.Codecs.{IsBytes, IsBytes-drop}
 use Rattle.mx_schema.specs.declared.cell.Cell.{Cell}
 use Rattle.mx_schema.specs.declared.cell.Cell.TheVariants as cells
 use Rattle.mx_schema.specs.declared.column.Column.{Column}
@@ -19,7 +19,6 @@ use Rattle.mx_parquet.specs.Decoding.{IsHeldBy, AreLevels, IsPageOf}
 use Rattle.mx_parquet.specs.Reading.{Answers}
 use Rattle.mx_parquet.specs.Values.{sized_in, cells_in}
 use Rattle.mx_parquet.specs.Chunks.{fitted, Reads, FindsOne, IsOfKind, AreCells, AreLevelsIn}
-use Rattle.mx_parquet.proofs.OpeningSays.{drop_fits}
 use Rattle.mx_parquet.proofs.Said.{good, ok_is}
 use Rattle.mx_parquet.proofs.ValuesSay.{sized_says, sized_reads, cells_say, cells_read}
 
@@ -221,4 +220,4 @@ rest_fits false count bytes ls rest are fits = subst IsBytes (sym are.1) fits
 rest_fits true count bytes ls rest are fits =
     let front = number w32 (length are.0) ++ are.0 in
     let behind : drop (length front) bytes ≡ rest = ap (drop (length front)) are.2 ∙ drop_at front rest (length front) refl in
-    subst IsBytes behind (drop_fits (length front) bytes fits)
+    subst IsBytes behind (IsBytes-drop (length front) bytes fits)

@@ -1,5 +1,5 @@
 -- Rows that are filled column by column have the cells of the columns.
-use Rattle.std.proofs.Common.{◌≡◌, ℕ, suc, ◌+◌, ◌-◌, ◌^◌, ◌<◌, min, List, [], ◌∷◌, length, map, take, drop, Result, Ok, Err, refl, sym, ap, subst, ◌∙◌, arith, inl, inr, OnOk}
+use Rattle.std.proofs.Common.{◌≡◌, ℕ, suc, ◌+◌, ◌-◌, ◌^◌, ◌<◌, min, List, [], ◌∷◌, length, map, take, drop, Result, Ok, Err, refl, sym, ap, subst, ◌∙◌, arith, inl, inr}
 use Rattle.std.specs.List.{AllByRecursion}
 use Rattle.std.proofs.lemmas.Bool.{cases_lt}
 use Rattle.std.proofs.lemmas.List.{length-drop, take_all, drop-take, nil_from_length}
@@ -115,10 +115,6 @@ columns_filled file place count column columns all chunk chunks places held befo
     column_filled file place count column columns chunk chunks held before mid after many fills short made others
     )
     )
-
-pub on_ok : {X E : Type 0} {A B : Type 0} (r : Result X E) → (A → B) → OnOk r A → OnOk r B
-on_ok (Ok x) f a = f a
-on_ok (Err e) f a = a
 
 pub mid_filled : (place count : ℕ) (column : Column) (bytes : List ℕ) (held : List Cell) (before mid : List FullRow) → count ≡ length before → FillColumn column place count bytes held
     → AllByRecursion (λ row. length row.cells ≡ place - 5) before → map row_cells mid ≡ with_cells place held before → IsFilled place held before mid

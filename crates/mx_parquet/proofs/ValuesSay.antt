@@ -10,7 +10,7 @@ use Rattle.std.proofs.lemmas.List.{take_at, drop_at, take-append-drop, length-ta
 use Rattle.std.proofs.lemmas.List.Concat.{flat_map-cons}
 use Rattle.std.proofs.lemmas.Nat.{le_bytes_4, le_bytes_8, from_le_bytes-to_le_bytes_4}
 use Rattle.std.proofs.lemmas.Str.{IsUtf8-from_is_utf8, is_utf8-from_IsUtf8}
-use Rattle.mx_avro.proofs.Groups.{IsBytes}
+use Rattle.mx_lists.proofs.Codecs.{IsBytes, IsBytes-drop, IsBytes-take}
 use Rattle.mx_schema.specs.declared.cell.Cell.{Cell}
 use Rattle.mx_schema.specs.declared.cell.Cell.TheVariants as cells
 use Rattle.mx_schema.specs.declared.column.ColumnKind.{ColumnKind}
@@ -21,7 +21,6 @@ use Rattle.mx_parquet.specs.Decoding.{AreBits, AreValues}
 use Rattle.mx_parquet.specs.Reading.{◌>>=◌}
 use Rattle.mx_parquet.specs.Values.{front_in, sized_in, text_of, value_in, cell_in, at_end, plain_in, flags_in, present_count, truths_in, cells_in}
 use Rattle.mx_parquet.specs.Chunks.{fitted, IsOfKind, AreCells}
-use Rattle.mx_parquet.proofs.OpeningSays.{drop_fits, take_fits}
 use Rattle.mx_parquet.proofs.Said.{bind_ok, good, ok_is}
 
 -- ---- the front of bytes
@@ -41,8 +40,8 @@ front_by count bytes x false fits lt e =
     record {
       parts = sym (take-append-drop count bytes);
       len = omega (arith, length-take count bytes);
-      front_fits = take_fits count bytes fits;
-      rest_fits = drop_fits count bytes fits;
+      front_fits = IsBytes-take count bytes fits;
+      rest_fits = IsBytes-drop count bytes fits;
     }
     )
 

@@ -1,13 +1,12 @@
-ghost use Rattle.std.specs.Prelude.{◌≡◌, ◌∷◌, ◌++◌, ◌↔◌, IsTrue, IfOk, OnOk, length, map, flat_map, string_bytes};
-ghost use Rattle.mx_schema.specs.Columns.{column_text, schema_text};
+ghost use Rattle.std.specs.Prelude.{◌≡◌, ◌↔◌, IsTrue, map};
 ghost use Rattle.mx_parquet.specs.Columns.{text_column, hudi_names};
 ghost use Rattle.mx_parquet.specs.Found.{FindsSchema, FindsColumns};
 
 use crate::column::HUDI_COUNT;
 use crate::error::{Failure, Flaw};
-use mx_lists::{Same, Text};
-use mx_schema::{Column, ColumnKind, Schema, SchemaError};
-use std::alloc::{AllocError, Global};
+use mx_lists::{Same, same_items};
+use mx_schema::{Column, ColumnKind, Schema, SchemaError, print_columns};
+use std::alloc::Global;
 
 const HUDI_NAMES: [&str; 5] = [
     "_hoodie_commit_time",
@@ -61,10 +60,10 @@ fn is_text(column: &Column, name: &str) -> bool
 fn schema_from(alloc: Global, columns: &[Column]) -> Result<Schema, Failure>
     ensures { FindsColumns columns.now result }
 {
-    let text = text_of(alloc, columns)?;
+    let text = print_columns(alloc, columns)?;
     match Schema::parse(alloc, text.as_str()) {
         Ok(schema) => {
-            if same_columns(schema.columns(), columns) {
+            if same_items(schema.columns(), columns) {
                 Ok(schema)
             } else {
                 Err(Failure::Flawed { flaw: Flaw::Bad })
@@ -73,56 +72,4 @@ fn schema_from(alloc: Global, columns: &[Column]) -> Result<Schema, Failure>
         Err(SchemaError::NoMemory) => Err(Failure::NoMemory),
         Err(SchemaError::BadSchema { .. }) => Err(Failure::Flawed { flaw: Flaw::Bad }),
     }
-}
-
-fn same_columns(a: &[Column], b: &[Column]) -> bool
-    ensures { IsTrue result ↔ (a.now ≡ b.now) }
-{
-    match (a, b) {
-        ([], []) => true,
-        ([x, xs @ ..], [y, ys @ ..]) => x.same(y) && same_columns(xs, ys),
-        _ => false,
-    }
-}
-
-fn text_of(alloc: Global, columns: &[Column]) -> Result<Text, AllocError>
-    ensures { IfOk result (λ text. text ≡ schema_text columns.now) }
-{
-    let mut text = String::new(alloc);
-    put_columns(&mut text, columns)?;
-    Ok(Text::from_string(text))
-}
-
-fn put_columns(text: &mut String, columns: &[Column]) -> Result<(), AllocError>
-    ensures { OnOk result (string_bytes text.new ≡ string_bytes text.old ++ schema_text columns.now) }
-{
-    let Some((first, others)) = columns.split_first() else {
-        return Ok(());
-    };
-    put_column(text, first)?;
-    put_others(text, others)?;
-    Ok(())
-}
-
-/// The columns behind the first one.
-fn put_others(text: &mut String, others: &[Column]) -> Result<(), AllocError>
-    ensures { OnOk result (string_bytes text.new ≡ string_bytes text.old ++ flat_map (λ column. 44 ∷ column_text column) others.now) }
-{
-    for column in others {
-        text.push(',')?;
-        put_column(text, column)?;
-    }
-    Ok(())
-}
-
-fn put_column(text: &mut String, column: &Column) -> Result<(), AllocError>
-    ensures { OnOk result (string_bytes text.new ≡ string_bytes text.old ++ column_text column.now) }
-{
-    text.push_str(column.name.as_str())?;
-    text.push(':')?;
-    text.push_str(column.kind.name())?;
-    if column.nullable {
-        text.push('?')?;
-    }
-    Ok(())
 }

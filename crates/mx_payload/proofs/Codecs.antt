@@ -1,36 +1,9 @@
 -- A reader gives what was written, whatever follows, and what it gives was written so: for readers that are made of
 -- others.
-use Rattle.std.proofs.Common.{◌≡◌, ℕ, Bool, true, false, cond, List, ◌++◌, length, Result, Ok, Err, refl, sym, ap, subst, ◌∙◌, append_assoc}
-use Rattle.mx_avro.proofs.Groups.{IsBytes}
-use Rattle.mx_payload.specs.Decoding.{◌>>=◌, Reader, both, passing}
-
--- what a reader took from the front
-pub record Took (bytes text rest : List ℕ) : Type 0 where
-  pub parts : bytes ≡ text ++ rest
-  pub rest_fits : IsBytes rest
-
-pub record Codec {A : Type 0} (read : Reader A) (spell : A → List ℕ) (Good : A → Type 0) : Type 0 where
-  pub again : (x : A) (rest : List ℕ) → Good x → read (spell x ++ rest) ≡ Ok (x, rest)
-  pub takes : (bytes : List ℕ) (x : A × List ℕ) → IsBytes bytes → read bytes ≡ Ok x → Took bytes (spell x.0) x.1 × Good x.0
-
--- the value of a step that did not fail
-pub bind_ok : {A B : Type 0} (r : Result A ℕ) (f : A → Result B ℕ) (y : B) → (r >>= f) ≡ Ok y → (x : A) × (r ≡ Ok x) × (f x ≡ Ok y)
-bind_ok (Ok x) f y e = (x, refl, e)
-bind_ok (Err left) f y e = absurd cc
-
--- a test that did not fail
-pub passed : {A : Type 0} (b : Bool) (x y : A) (left : ℕ) → cond b (Ok x) (Err left) ≡ Ok y → (b ≡ true) × (x ≡ y)
-passed true x y left e = (refl, cc)
-passed false x y left e = absurd cc
-
-abbrev done : {A : Type 0} → A → Result A ℕ
-done x = Ok x
-
-pub ok_is : {A : Type 0} (x y : A) → done x ≡ done y → x ≡ y
-ok_is x y e = cc
-
-pub Took-then : (a x b y c : List ℕ) → Took a x b → Took b y c → Took a (x ++ y) c
-Took-then a x b y c p q = record { parts = p.parts ∙ ap (λ (t : List ℕ). x ++ t) q.parts ∙ sym (append_assoc x y c); rest_fits = q.rest_fits }
+use Rattle.std.proofs.Common.{◌≡◌, ℕ, Bool, true, cond, List, ◌++◌, length, Ok, Err, refl, ap, subst, ◌∙◌, append_assoc}
+use Rattle.mx_lists.proofs.Codecs.{Took, Codec, bind_ok, passed, ok_is, Took-then}
+use Rattle.mx_lists.specs.Reading.{◌>>=◌, Reader, passing}
+use Rattle.mx_payload.specs.Decoding.{both}
 
 module _ {A B : Type 0} {r1 : Reader A} {s1 : A → List ℕ} {G1 : A → Type 0} {r2 : Reader B} {s2 : B → List ℕ} {G2 : B → Type 0} where
   pub both_codec : Codec r1 s1 G1 → Codec r2 s2 G2 → Codec (both r1 r2) (λ p. s1 p.0 ++ s2 p.1) (λ p. G1 p.0 × G2 p.1)

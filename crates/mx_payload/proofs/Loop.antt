@@ -3,9 +3,10 @@ use Rattle.std.proofs.Common.{◌≡◌, ℕ, suc, ◌-◌, ◌+◌, ◌≤◌, 
 use Rattle.std.specs.Option.{option_map}
 use Rattle.std.specs.List.{slice_get}
 use Rattle.mx_payload.specs.declared.payload.NameWord.{NameWord}
-use Rattle.mx_payload.specs.declared.error.Fault.{Fault}
-use Rattle.mx_payload.specs.declared.error.Fault.TheVariants as faults
-use Rattle.mx_payload.specs.Decoding.{◌>>=◌, Fails, word_in, words_in, last_name}
+use Rattle.mx_lists.specs.declared.fault.Fault.{Fault}
+use Rattle.mx_lists.specs.declared.fault.Fault.TheVariants as faults
+use Rattle.mx_lists.specs.Reading.{◌>>=◌, Fails}
+use Rattle.mx_payload.specs.Decoding.{word_in, words_in, last_name}
 
 -- what was read before, and what is still read
 abbrev pub with_front : List NameWord → Result (List NameWord × List ℕ) ℕ → Result (List NameWord × List ℕ) ℕ

@@ -4,24 +4,21 @@ use Rattle.std.proofs.lemmas.Bool.{eqb-true, ltb-true, lt-ltb, eq-eqb, ne_eqb}
 use Rattle.std.proofs.lemmas.Int.{ints}
 use Rattle.std.proofs.lemmas.Str.{is_utf8-from_IsUtf8, IsUtf8-from_is_utf8}
 use Rattle.std.proofs.Math.Seq.{drop-append_seam, take-append_seam}
-use Rattle.std.proofs.lemmas.List.{get_or-drop}
 use Rattle.std.specs.Str.{is_utf8}
 use Rattle.std.specs.Int.{w32, w64}
 use Rattle.std.specs.Int.RustNames.{FitsSigned}
 use Rattle.mx_avro.specs.declared.error.AvroError.{AvroError}
 use Rattle.mx_avro.specs.Encoding.{long_encoding, bytes_encoding}
 use Rattle.mx_avro.specs.Decoding.{long_at, bytes_at}
-use Rattle.mx_avro.proofs.Groups.{IsBytes}
 use Rattle.mx_avro.proofs.Longs.{long_again, long_takes, bytes_again, bytes_takes, bytes_len_fits}
 use Rattle.mx_schema.specs.declared.cell.Cell.{Cell}
 use Rattle.mx_schema.specs.declared.cell.Cell.TheVariants as cells
 use Rattle.mx_payload.specs.Rules.{IsLong, IsText, IsCell}
 use Rattle.mx_payload.specs.Encoding.{long, flag, cell_bytes}
-use Rattle.mx_payload.specs.Decoding.{◌>>=◌, Reader, passing, behind, before_null, number_from, number_in, natural_from, natural_in, is_small, small_in, expected_in, bytes_from, bytes_in, text_in, flag_in, value_in, cell_in}
-use Rattle.mx_payload.proofs.Codecs.{Took, Codec, bind_ok, ok_is, Took-then, passing_codec, stated}
-
-IsBytes-drop : (at : ℕ) (bytes : List ℕ) → IsBytes bytes → IsBytes (drop at bytes)
-IsBytes-drop at bytes h i = rw get_or-drop (h (at + i))
+use Rattle.mx_lists.specs.Reading.{◌>>=◌, Reader, passing}
+use Rattle.mx_payload.specs.Decoding.{behind, before_null, number_from, number_in, natural_from, natural_in, is_small, small_in, expected_in, bytes_from, bytes_in, text_in, flag_in, value_in, cell_in}
+use Rattle.mx_lists.proofs.Codecs.{IsBytes, IsBytes-drop, Took, Codec, bind_ok, ok_is, Took-then}
+use Rattle.mx_payload.proofs.Codecs.{passing_codec, stated}
 
 -- ---- numbers
 

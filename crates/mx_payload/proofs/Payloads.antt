@@ -5,7 +5,6 @@ use Rattle.std.proofs.lemmas.List.{nil_from_length}
 use Rattle.std.specs.List.{AllByRecursion}
 use Rattle.std.specs.Prelude.{IfOk}
 use Rattle.mx_avro.specs.Encoding.{bytes_encoding}
-use Rattle.mx_avro.proofs.Groups.{IsBytes}
 use Rattle.mx_payload.specs.declared.payload.NameWord.{NameWord}
 use Rattle.mx_payload.specs.declared.payload.Payload.{Payload}
 use Rattle.mx_payload.specs.declared.payload.Payload.TheVariants.{Partitions, Files, Stats, Bloom, Location}
@@ -13,8 +12,10 @@ use Rattle.mx_payload.specs.declared.error.PayloadError.{PayloadError}
 use Rattle.mx_payload.specs.declared.error.PayloadError.TheVariants as errors
 use Rattle.mx_payload.specs.Rules.{IsLong, IsText, IsWord, AreWords, RisesFrom, plain, IsStat, IsFilter, IsWellFormed}
 use Rattle.mx_payload.specs.Encoding.{long, flag, word_map, stat_bytes, column_bytes, place_bytes, head, encoding}
-use Rattle.mx_payload.specs.Decoding.{◌>>=◌, Reader, both, behind, before_null, natural_in, expected_in, text_in, flag_in, map_in, stat_in, filter_in, instant_in, partitions_in, files_in, stats_in, bloom_in, location_in, kind_in, payload_in, Decodes, FailsAt, IsOnly}
-use Rattle.mx_payload.proofs.Codecs.{Took, Codec, bind_ok, passed, ok_is, both_codec}
+use Rattle.mx_lists.specs.Reading.{◌>>=◌, Reader}
+use Rattle.mx_payload.specs.Decoding.{both, behind, before_null, natural_in, expected_in, text_in, flag_in, map_in, stat_in, filter_in, instant_in, partitions_in, files_in, stats_in, bloom_in, location_in, kind_in, payload_in, Decodes, FailsAt, IsOnly}
+use Rattle.mx_lists.proofs.Codecs.{IsBytes, Took, Codec, bind_ok, passed, ok_is}
+use Rattle.mx_payload.proofs.Codecs.{both_codec}
 use Rattle.mx_payload.proofs.Parts.{natural_codec, expected_again, expected_takes, text_codec, flag_codec, behind_codec, before_null_codec}
 use Rattle.mx_payload.proofs.WordLists.{MapOf, WordsFrom, IsPlainIf, map_codec}
 use Rattle.mx_payload.proofs.Stats.{stat_codec, filter_codec, instant_codec}

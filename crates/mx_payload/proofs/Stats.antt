@@ -1,6 +1,6 @@
 -- Stats, filters and instants are read as they were written, and were written as they are read.
 use Rattle.std.proofs.Common.{◌≡◌, ℕ, zero, suc, ◌-◌, ◌%◌, ◌^◌, ◌<◌, ◌≤◌, Bool, true, false, cond, not, eqb, ltb, ◌&&◌, List, ◌++◌, length, Ok, Err, refl, sym, ap, subst, ◌∙◌, append_assoc, arith, inl, inr}
-use Rattle.std.proofs.lemmas.Bool.{eqb-true, ltb-true, ltb-false, lt-ltb, eq-eqb, ne_eqb}
+use Rattle.std.proofs.lemmas.Bool.{eqb-true, ltb-true, ltb-false, lt-ltb, eq-eqb, ne_eqb, and_parts}
 use Rattle.std.proofs.lemmas.Bool.Decides.{nat_tests}
 use Rattle.mx_avro.specs.Encoding.{bytes_encoding}
 use Rattle.mx_avro.proofs.Groups.{chosen}
@@ -10,7 +10,8 @@ use Rattle.mx_schema.specs.declared.column_stat.ColumnStat.{ColumnStat}
 use Rattle.mx_payload.specs.Rules.{IsLong, IsCell, IsStat, IsEmptyStat, IsFilter}
 use Rattle.mx_payload.specs.Encoding.{long, flag, cell_bytes, stat_bytes}
 use Rattle.mx_payload.specs.Decoding.{is_null, empty_fields, checked_stat, Facts, facts_in, stat_of_facts, deleted_of_facts, stat_in, is_same, filter_in, instant_in}
-use Rattle.mx_payload.proofs.Codecs.{Took, Codec, bind_ok, ok_is, both_codec, passing_codec, stated}
+use Rattle.mx_lists.proofs.Codecs.{Took, Codec, bind_ok, ok_is}
+use Rattle.mx_payload.proofs.Codecs.{both_codec, passing_codec, stated}
 use Rattle.mx_payload.proofs.Parts.{Any, natural_codec, bytes_codec, flag_codec, cell_codec}
 
 facts_codec : Codec facts_in (λ x. cell_bytes x.0 ++ (cell_bytes x.1.0 ++ (long x.1.1.0 ++ (long x.1.1.1.0 ++ (long x.1.1.1.1.0 ++ (long x.1.1.1.1.1.0 ++ flag x.1.1.1.1.1.1))))))
@@ -106,13 +107,9 @@ filter_codec = stated Filter (λ x good. (good.0.0.0, filter_is (length x.0) x.0
 abbrev Instant : ℕ → Type 0
 Instant n = (0 < n) × (n < 10 ^ 17)
 
-both_true : (a b : Bool) → (a && b) ≡ true → (a ≡ true) × (b ≡ true)
-both_true true b e = (refl, e)
-both_true false b e = absurd cc
-
 pub instant_codec : Codec instant_in long Instant
 unfolding instant_in
 instant_codec = stated Instant
-    (λ n good. let p = both_true (ltb 0 n) (ltb n (10 ^ 17)) good.1 in (ltb-true 0 n p.0, ltb-true n (10 ^ 17) p.1))
+    (λ n good. let p = and_parts (ltb 0 n) (ltb n (10 ^ 17)) good.1 in (ltb-true 0 n p.0, ltb-true n (10 ^ 17) p.1))
     (λ n good. let low : ltb 0 n ≡ true = lt-ltb 0 n good.0 in let high : ltb n (10 ^ 17) ≡ true = lt-ltb n (10 ^ 17) good.1 in (omega (arith, good.1), rw (low, high) refl))
     (passing_codec (λ n. ltb 0 n && ltb n (10 ^ 17)) natural_codec)

@@ -1,13 +1,12 @@
 -- Words put over each other.
-use Rattle.std.proofs.Common.{◌≡◌, ℕ, Bool, true, false, cond, eqb, ltb, ◌&&◌, List, [], ◌∷◌, ◌++◌, length, map, Option, Some, None, Result, Ok, Err, refl, sym, ap, subst, ◌∙◌, arith, inl, inr, ◌⊎◌}
+use Rattle.std.proofs.Common.{◌≡◌, ℕ, Bool, true, false, cond, eqb, ltb, List, [], ◌∷◌, ◌++◌, length, map, Option, Some, None, Result, Ok, Err, refl, sym, ap, subst, ◌∙◌, arith, inl, inr, ◌⊎◌}
 use Rattle.std.specs.Option.{option_or}
-use Rattle.std.specs.Ordering.{nat_cmp, is_eq, is_lt, ordering_reverse}
-use Rattle.std.specs.Cmp.{tied_itself}
-use Rattle.std.specs.FinMap.{slice_cmp-IsAntisymmetric, nat_cmp-IsAntisymmetric}
+use Rattle.std.specs.Ordering.{is_eq, is_lt}
+use Rattle.std.specs.Cmp.{tied_itself, Equal-is}
 use Rattle.std.specs.FinMap.Entries.{find, below_all, is_sorted, same_entries}
 use Rattle.mx_avro.proofs.Groups.{chosen}
 use lib.Dec.{T}
-use Rattle.std.specs.Cmp.Lexicographic.{slice_cmp, nat_list_cmp_total}
+use Rattle.std.specs.Cmp.Lexicographic.{nat_list_cmp_total}
 use Rattle.std.specs.Bool.{IsTrue}
 use Rattle.std.specs.List.{AllByRecursion}
 use Rattle.std.specs.List.Sorted.{IsStrictlySortedBy}
@@ -23,33 +22,19 @@ use Rattle.std.specs.Prelude.{IfOk, OnOk}
 use Rattle.std.specs.Global.{Vec}
 use Rattle.std.specs.declared.alloc.AllocError.{AllocError}
 use Rattle.std.specs.Bool.{MatchBool}
-use Rattle.std.proofs.lemmas.Bool.{eq-eqb}
+use Rattle.std.proofs.lemmas.Bool.{eq-eqb, and_from}
+use Rattle.std.proofs.lemmas.Map.Lookups.{exact_bytes}
+use Rattle.mx_lists.proofs.TreeLemmas.{R, turned}
 use Rattle.mx_payload.specs.Union.{state_of, IsUnion, IsCombined, are_lists, kind, words_of, after, word_of}
-
-abbrev pub R : List ℕ → List ℕ → Ordering
-R = slice_cmp nat_cmp
 
 pub after-push : (words : List NameWord) (w : NameWord) (name : List ℕ) (before : Option (ℕ × Bool)) → after (words ++ w ∷ []) name before ≡ cond (is_eq (R w.name name)) (Some (w.size, w.deleted)) (after words name before)
 after-push [] w name before = refl
 after-push (v ∷ words) w name before = after-push words w name (cond (is_eq (R v.name name)) (Some (v.size, v.deleted)) before)
 
-turn : (x y : List ℕ) → is_eq (R x y) ≡ is_eq (R y x)
-turn x y = is_turned (R x y) (R y x) (nat_list_cmp_total.antisymm x y)
-  where
-    is_turned : (a b : Ordering) → a ≡ ordering_reverse b → is_eq a ≡ is_eq b
-    is_turned a Less e = ap is_eq e
-    is_turned a Equal e = ap is_eq e
-    is_turned a Greater e = ap is_eq e
-
 less_is : (o : Ordering) → IsTrue (is_lt o) → o ≡ Less
 less_is Less h = refl
 less_is Equal h = absurd cc
 less_is Greater h = absurd cc
-
-equal_is : (o : Ordering) → is_eq o ≡ true → o ≡ Equal
-equal_is Less h = absurd cc
-equal_is Equal h = refl
-equal_is Greater h = absurd cc
 
 -- nothing is said of a name that stands before all words
 before_all : (x q : List ℕ) (words : List NameWord) → ((R q x ≡ Equal) ⊎ (R q x ≡ Less)) → RisesFrom (Some x) words → state_of q words ≡ None
@@ -62,11 +47,11 @@ before_all x q (w ∷ words) at rising =
 over : (w : NameWord) (words : List NameWord) (q : List ℕ) (b : Option (ℕ × Bool)) (t : Bool) → is_eq (R q w.name) ≡ t → RisesFrom (Some w.name) words
     → option_or (state_of q words) (cond (is_eq (R w.name q)) (Some (w.size, w.deleted)) b) ≡ option_or (cond (is_eq (R q w.name)) (Some (w.size, w.deleted)) (state_of q words)) b
 over w words q b true e rising =
-    let none = before_all w.name q words (inl (equal_is _ e)) rising in
-    let back : is_eq (R w.name q) ≡ true = turn w.name q ∙ e in
+    let none = before_all w.name q words (inl ((Equal-is _).0 e)) rising in
+    let back : is_eq (R w.name q) ≡ true = turned w.name q ∙ e in
     rw (none, back, e) refl
 over w words q b false e rising =
-    let back : is_eq (R w.name q) ≡ false = turn w.name q ∙ e in
+    let back : is_eq (R w.name q) ≡ false = turned w.name q ∙ e in
     rw (back, e) refl
 
 pub after_is : (before : Option (List ℕ)) (words : List NameWord) (q : List ℕ) (b : Option (ℕ × Bool)) → RisesFrom before words → after words q b ≡ option_or (state_of q words) b
@@ -106,22 +91,13 @@ is_union older newer m0 m1 m2 ro rn empty one two ordered = record {
 
 -- ---- what holds of each word of both lists holds of each word of the union
 
-abbrev same : (x y : List ℕ) → R x y ≡ Equal → x ≡ y
-same = slice_cmp-IsAntisymmetric nat_cmp-IsAntisymmetric
-
-none_some : (s : ℕ × Bool) → None ≡ Some s → ⊥
-none_some s e = absurd cc
-
-some_is : (x y : ℕ × Bool) → Some x ≡ Some y → x ≡ y
-some_is x y e = cc
-
 said_first : (P : NameWord → Type 0) (w : NameWord) (q : List ℕ) (s : ℕ × Bool) → P w → R q w.name ≡ Equal → Some (w.size, w.deleted) ≡ Some s → P (word_of (q, s))
-said_first P w q s p tie e = subst (λ (x : List ℕ). P (word_of (x, s))) (sym (same q w.name tie)) (subst (λ (x : ℕ × Bool). P (word_of (w.name, x))) (some_is _ _ e) p)
+said_first P w q s p tie e = subst (λ (x : List ℕ). P (word_of (x, s))) (sym (exact_bytes q w.name tie)) (subst (λ (x : ℕ × Bool). P (word_of (w.name, x))) (cc e) p)
 
 said : (P : NameWord → Type 0) (words : List NameWord) (q : List ℕ) (s : ℕ × Bool) → AllByRecursion P words → state_of q words ≡ Some s → P (word_of (q, s))
-said P [] q s all e = absurd (none_some s e)
+said P [] q s all e = absurd (cc e)
 said P (w ∷ words) q s all e = elim (chosen (is_eq (R q w.name)) (Some (w.size, w.deleted)) (state_of q words) (Some s) e) [
-  | inl p ↦ said_first P w q s all.0 (equal_is _ p.0) p.1
+  | inl p ↦ said_first P w q s all.0 ((Equal-is _).0 p.0) p.1
   | inr p ↦ said P words q s all.1 p.1
 ]
 
@@ -129,7 +105,7 @@ apart : (w : NameWord) (words : List NameWord) (q : List ℕ) (s : ℕ × Bool) 
 apart w words q s rising e = by_test (is_eq (R q w.name)) refl
   where
     by_test : (t : Bool) → is_eq (R q w.name) ≡ t → t ≡ false
-    by_test true tie = absurd (none_some s (sym (before_all w.name q words (inl (equal_is _ tie)) rising) ∙ e))
+    by_test true tie = absurd (cc (sym (before_all w.name q words (inl ((Equal-is _).0 tie)) rising) ∙ e))
     by_test false tie = refl
 
 all_said : (P : NameWord → Type 0) (before : Option (List ℕ)) (words : List NameWord) → RisesFrom before words → ((q : List ℕ) (s : ℕ × Bool) → state_of q words ≡ Some s → P (word_of (q, s))) → AllByRecursion P words
@@ -162,9 +138,6 @@ word-entry : (words : List NameWord) → map word_of (map entry words) ≡ words
 word-entry [] = refl
 word-entry (w ∷ words) = ap (λ (ws : List NameWord). w ∷ ws) (word-entry words)
 
-both : (a b : Bool) → a ≡ true → b ≡ true → (a && b) ≡ true
-both a b e f = rw (e, f) refl
-
 -- a name that is below the first word is below all of them
 earlier : (x : List ℕ) (w : NameWord) (words : List NameWord) → R x w.name ≡ Less → RisesFrom (Some w.name) words → RisesFrom (Some x) words
 earlier x w [] step rising = tt
@@ -175,15 +148,15 @@ holds b e = subst T (sym e) tt
 
 below_words : (x : List ℕ) (words : List NameWord) → RisesFrom (Some x) words → below_all R x (map entry words) ≡ true
 below_words x [] rising = refl
-below_words x (w ∷ words) rising = both _ _ rising.0 (below_words x words (earlier x w words (less_is _ rising.0) rising.1))
+below_words x (w ∷ words) rising = and_from _ _ rising.0 (below_words x words (earlier x w words (less_is _ rising.0) rising.1))
 
 sorted_words : (before : Option (List ℕ)) (words : List NameWord) → RisesFrom before words → is_sorted R (map entry words) ≡ true
 sorted_words before [] rising = refl
-sorted_words before (w ∷ words) rising = both _ _ (below_words w.name words rising.1) (sorted_words (Some w.name) words rising.1)
+sorted_words before (w ∷ words) rising = and_from _ _ (below_words w.name words rising.1) (sorted_words (Some w.name) words rising.1)
 
 pub same_words : (xs ys : List NameWord) → RisesFrom None xs → RisesFrom None ys → ((q : List ℕ) → state_of q xs ≡ state_of q ys) → xs ≡ ys
 same_words xs ys rx ry is =
-    let entries : map entry xs ≡ map entry ys = same_entries R nat_list_cmp_total same (map entry xs) (map entry ys) (holds _ (sorted_words None xs rx)) (holds _ (sorted_words None ys ry)) (λ q. find-entry q xs ∙ is q ∙ sym (find-entry q ys)) in
+    let entries : map entry xs ≡ map entry ys = same_entries R nat_list_cmp_total exact_bytes (map entry xs) (map entry ys) (holds _ (sorted_words None xs rx)) (holds _ (sorted_words None ys ry)) (λ q. find-entry q xs ∙ is q ∙ sym (find-entry q ys)) in
     sym (word-entry xs) ∙ ap (map word_of) entries ∙ word-entry ys
 
 or_assoc : (a b c : Option (ℕ × Bool)) → option_or c (option_or b a) ≡ option_or (option_or c b) a
@@ -260,7 +233,7 @@ Lists x y r = (kind r ≡ kind y) × IsUnion (words_of x) (words_of y) (words_of
 
 as_lists : (x y r : Payload) → kind x ≡ kind y → ltb (kind y) 3 ≡ true → IsCombined x y r → Lists x y r
 as_lists x y r e lt u =
-    let lists : are_lists x y ≡ true = both _ _ (eq-eqb (kind x) (kind y) e) lt in
+    let lists : are_lists x y ≡ true = and_from _ _ (eq-eqb (kind x) (kind y) e) lt in
     subst (λ (t : Bool). MatchBool t (Lists x y r) (r ≡ y)) lists u
 
 as_newer : (x y r : Payload) → kind x ≡ kind y → ltb (kind y) 3 ≡ false → IsCombined x y r → r ≡ y

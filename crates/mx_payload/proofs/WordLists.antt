@@ -6,12 +6,13 @@ use Rattle.std.proofs.lemmas.List.Concat.{flat_map-cons}
 use Rattle.std.specs.List.{flat_map}
 use Rattle.std.specs.Bool.{IsTrue}
 use Rattle.mx_avro.specs.Encoding.{bytes_encoding}
-use Rattle.mx_avro.proofs.Groups.{IsBytes}
 use Rattle.mx_payload.specs.declared.payload.NameWord.{NameWord}
 use Rattle.mx_payload.specs.Rules.{IsLong, IsText, IsWord, rises}
 use Rattle.mx_payload.specs.Encoding.{long, flag, word, word_map}
-use Rattle.mx_payload.specs.Decoding.{◌>>=◌, both, before_null, natural_in, expected_in, name_in, state_in, word_in, words_in, block_in, map_in}
-use Rattle.mx_payload.proofs.Codecs.{Took, Codec, bind_ok, ok_is, Took-then, both_codec, passing_codec}
+use Rattle.mx_lists.specs.Reading.{◌>>=◌}
+use Rattle.mx_payload.specs.Decoding.{both, before_null, natural_in, expected_in, name_in, state_in, word_in, words_in, block_in, map_in}
+use Rattle.mx_lists.proofs.Codecs.{IsBytes, Took, Codec, bind_ok, ok_is, Took-then}
+use Rattle.mx_payload.proofs.Codecs.{both_codec, passing_codec}
 use Rattle.mx_payload.proofs.Parts.{Any, natural_codec, expected_again, expected_takes, text_codec, flag_codec}
 
 -- ---- words

@@ -14,37 +14,12 @@ use Rattle.mx_payload.specs.declared.payload.Payload.{Payload}
 use Rattle.mx_payload.specs.declared.payload.Payload.TheVariants.{Partitions, Files, Stats, Bloom, Location}
 use Rattle.mx_payload.specs.declared.error.PayloadError.{PayloadError}
 use Rattle.mx_payload.specs.declared.error.PayloadError.TheVariants as errors
-use Rattle.mx_payload.specs.declared.error.Fault.{Fault}
-use Rattle.mx_payload.specs.declared.error.Fault.TheVariants as faults
+use Rattle.mx_lists.specs.Reading.{◌>>=◌, Reader, passing}
 use Rattle.mx_payload.specs.Rules.{rises}
-
--- the next step, where the first one did not fail
-infixl 10 ◌>>=◌
-abbrev pub ◌>>=◌ : {A B : Type 0} → Result A ℕ → (A → Result B ℕ) → Result B ℕ
-(Ok x) >>= f = f x
-(Err left) >>= f = Err left
-
--- what a function returned, seen by view, is what reading gives, unless memory ran out
-abbrev pub Fails : {Y : Type 0} → Fault → Result Y ℕ → Type 0
-Fails faults.NoMemory read = Unit {0}
-Fails (faults.Bad left) read = read ≡ Err left
-
--- what a function returned, seen by view, is what was read
-abbrev pub Gives : {X Y : Type 0} → (X → Y) → Result X Fault → Result Y ℕ → Type 0
-Gives view (Ok x) read = read ≡ Ok (view x)
-Gives view (Err e) read = Fails e read
-
--- a value, and what stands behind it
-abbrev pub Reader : Type 0 → Type 0
-Reader A = List ℕ → Result (A × List ℕ) ℕ
 
 -- one value behind the other
 abbrev pub both : {A B : Type 0} → Reader A → Reader B → Reader (A × B)
 both first second bytes = first bytes >>= λ x. second x.1 >>= λ y. Ok ((x.0, y.0), y.1)
-
--- a value that passes a test, which is a rule of its whole field
-abbrev pub passing : {A : Type 0} → (A → Bool) → Reader A → Reader A
-passing test read bytes = read bytes >>= λ x. if test x.0 then Ok x else Err (length bytes)
 
 -- the bytes behind a number that ends at a place
 abbrev pub number_from : List ℕ → Result (ℤ × ℕ) AvroError → Result (ℤ × List ℕ) ℕ

@@ -1,10 +1,10 @@
 ghost use Rattle.std.specs.Prelude.{◌≡◌, length, Err};
-ghost use Rattle.mx_payload.specs.declared.error.Fault.TheVariants as faults;
-ghost use Rattle.mx_payload.specs.Decoding.{Gives, number_in, natural_in, small_in, expected_in, bytes_in, text_in, flag_in, cell_in, empty_fields, stat_in, filter_in, instant_in};
+ghost use Rattle.mx_lists.specs.declared.fault.Fault.TheVariants as faults;
+ghost use Rattle.mx_lists.specs.Reading.{Gives};
+ghost use Rattle.mx_payload.specs.Decoding.{number_in, natural_in, small_in, expected_in, bytes_in, text_in, flag_in, cell_in, empty_fields, stat_in, filter_in, instant_in};
 
-use crate::error::Fault;
 use mx_avro::{take_bytes, take_long};
-use mx_lists::{Bytes, Text};
+use mx_lists::{Bytes, Fault, Text};
 use mx_schema::{Cell, ColumnStat};
 use std::alloc::Global;
 

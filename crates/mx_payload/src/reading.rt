@@ -2,13 +2,14 @@ ghost use Rattle.std.specs.Prelude.{◌≡◌, IfOk};
 ghost use Rattle.mx_payload.specs.declared.payload.Payload.{Payload};
 ghost use Rattle.mx_payload.specs.Rules.{IsWellFormed};
 ghost use Rattle.mx_payload.specs.Encoding.{encoding};
-ghost use Rattle.mx_payload.specs.Decoding.{Gives, Decodes, IsOnly, payload_in, partitions_in, files_in, stats_in, bloom_in, location_in, kind_in};
+ghost use Rattle.mx_lists.specs.Reading.{Gives};
+ghost use Rattle.mx_payload.specs.Decoding.{Decodes, IsOnly, payload_in, partitions_in, files_in, stats_in, bloom_in, location_in, kind_in};
 
-use crate::error::{Fault, PayloadError};
+use crate::error::PayloadError;
 use crate::fields::{expected, filter_of, flag_of, instant_of, natural_of, stat_of, text_of};
 use crate::payload::Payload;
 use crate::words::{map_of, names_of};
-use mx_lists::Listed;
+use mx_lists::{Fault, Listed};
 use std::alloc::Global;
 
 /// The payload that the bytes spell, all of them.

@@ -1,11 +1,11 @@
 ghost use Rattle.std.specs.Prelude.{◌≡◌, ℕ, List, map, None, IfOk};
 ghost use Rattle.mx_payload.specs.Rules.{rises};
-ghost use Rattle.mx_payload.specs.Decoding.{Gives, name_in, state_in, word_in, words_in, map_in, last_name};
+ghost use Rattle.mx_lists.specs.Reading.{Gives};
+ghost use Rattle.mx_payload.specs.Decoding.{name_in, state_in, word_in, words_in, map_in, last_name};
 
-use crate::error::Fault;
 use crate::fields::{bad, expected, flag_of, natural_of, text_of};
 use crate::payload::NameWord;
-use mx_lists::Text;
+use mx_lists::{Fault, Text};
 use std::alloc::{AllocError, Global};
 
 /// The words of a map; `plain` where they are those of the partition list.

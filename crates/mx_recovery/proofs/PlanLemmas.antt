@@ -14,7 +14,7 @@ use Rattle.mx_base.specs.declared.object_name.ObjectName.{ObjectName}
 use Rattle.mx_base.specs.declared.object_name.ObjectName.TheVariants.{Config}
 use Rattle.mx_base.proofs.ObjectLemmas.{object_path-injective}
 use Rattle.mx_meta.proofs.JsonLemmas.{named_more}
-use Rattle.mx_model.proofs.SizeLemmas.{turned}
+use Rattle.mx_lists.proofs.TreeLemmas.{turned}
 use Rattle.mx_props.specs.Config.{config_text}
 use Rattle.mx_store.specs.Objects.{Objects, at_path, after_all}
 use Rattle.mx_store.specs.declared.change.Change.{Change}

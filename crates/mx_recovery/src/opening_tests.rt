@@ -3,9 +3,8 @@ ghost use Rattle.std.specs.Prelude.{◌≡◌, ◌<◌, ◌^◌, None};
 
 use crate::open_world;
 use crate::tests::{CONFIG, MOMENT, REQUESTED, add, opened, table_of, table_with};
-use mx_base::{Instant, Path};
-use mx_lists::{Bytes, Listed};
-use mx_store::{MemStore, Named, Store, StoreError};
+use mx_base::Instant;
+use mx_store::{MemStore, Named, QuietStore};
 use std::alloc::Global;
 use std::marker::Brand;
 use std::test::Fail;
@@ -75,52 +74,8 @@ fn a_folder_that_does_not_open_is_refused_and_kept(rt: HostRuntime) -> Result<()
     Ok(())
 }
 
-// A store in memory that tells nothing, as one over a disk does.
-#[derive(Drop)]
-struct Quiet {
-    inner: MemStore,
-}
-
-impl Store for Quiet {
-    ghost journal = { λ s. None };
-
-    ghost reads = { λ s. None };
-
-    ghost faults = { λ s. s.inner.faults };
-
-    fn list(&mut self, alloc: Global, prefix: &str) -> Result<Listed<Path>, StoreError> {
-        self.inner.list(alloc, prefix)
-    }
-
-    fn get(&mut self, alloc: Global, path: &Path) -> Result<Option<Bytes>, StoreError> {
-        self.inner.get(alloc, path)
-    }
-
-    fn get_range(
-        &mut self,
-        alloc: Global,
-        path: &Path,
-        at: u64,
-        len: u64,
-    ) -> Result<Option<Bytes>, StoreError> {
-        self.inner.get_range(alloc, path, at, len)
-    }
-
-    fn create(&mut self, alloc: Global, path: &Path, bytes: &[u8]) -> Result<bool, StoreError> {
-        self.inner.create(alloc, path, bytes)
-    }
-
-    fn put(&mut self, alloc: Global, path: &Path, bytes: &[u8]) -> Result<(), StoreError> {
-        self.inner.put(alloc, path, bytes)
-    }
-
-    fn delete(&mut self, alloc: Global, path: &Path) -> Result<bool, StoreError> {
-        self.inner.delete(alloc, path)
-    }
-}
-
 // The count of changes and the last instant after the opening of a store that tells nothing.
-fn opened_untold<N: Named>(alloc: Global, inner: MemStore) -> Result<(u64, u64), Fail>
+fn opened_untold<N: Named>(alloc: Global, store: MemStore) -> Result<(u64, u64), Fail>
     requires opening { N.opening ≡ None }
     requires moment { N.moment ≡ 20250101000000000 }
 {
@@ -128,7 +83,7 @@ fn opened_untold<N: Named>(alloc: Global, inner: MemStore) -> Result<(u64, u64),
         Some(at) => at,
         None => unreachable!(),
     };
-    match open_world::<Quiet, N>(alloc, Quiet { inner }, now) {
+    match open_world::<QuietStore, N>(alloc, QuietStore::over(store), now) {
         Ok(world) => Ok((world.seq(), world.last().number())),
         Err(_) => Err(Fail::new("the folder opens")),
     }

@@ -130,7 +130,8 @@ fn is_named(columns: &[Column], name: &str) -> bool
     columns.iter().any(|column| column.name.as_str() == name)
 }
 
-fn print_columns(alloc: Global, columns: &[Column]) -> Result<Text, AllocError>
+/// The text of columns, as a schema of them has it.
+pub fn print_columns(alloc: Global, columns: &[Column]) -> Result<Text, AllocError>
     ensures { IfOk result (λ text. text ≡ schema_text columns.now) }
 {
     let mut text = String::new(alloc);

@@ -1,5 +1,5 @@
 -- A store in memory, whose calls fail by their numbers.
-use Rattle.std.specs.Prelude.{◌≡◌, ◌==◌, ℕ, ◌+◌, ◌-◌, ◌^◌, min, List, [], ◌∷◌, find, reverse, option_map, Bool, true, false, Option, Some, None, Result, Ok, Err}
+use Rattle.std.specs.Prelude.{◌≡◌, ◌==◌, ℕ, ◌+◌, ◌-◌, ◌^◌, min, List, [], ◌∷◌, ◌++◌, find, reverse, option_map, Bool, true, false, Option, Some, None, Result, Ok, Err, IsErrOf}
 use Rattle.std.specs.BTreeMap as tree
 use Rattle.std.specs.BTreeMap.{BTreeMap}
 use Rattle.std.specs.Ordering.{nat_cmp}
@@ -44,3 +44,13 @@ added_by_failing (Some true) true change = change ∷ []
 added_by_failing (Some true) false change = []
 added_by_failing (Some false) allowed change = []
 added_by_failing None allowed change = []
+
+-- a call is counted, what the store was told stays, and the call fails exactly where it is to
+pub record FailsByNumber {T : Type 0} (old new : Seen) (result : Result T StoreError) : Type 0 where
+  pub calls : new.calls ≡ next_call old.calls
+  pub failures : new.failures ≡ old.failures
+  pub fate : MeetsFate (fate old.failures old.calls) result
+
+-- a change that fails is applied exactly where it is to and is allowed
+abbrev pub AppliesByFate : {T : Type 0} → Bool → Change → Seen → Seen → Result T StoreError → Type 0
+AppliesByFate allowed change old new result = IsErrOf result Failed → new.changes ≡ old.changes ++ added_by_failing (fate old.failures old.calls) allowed change

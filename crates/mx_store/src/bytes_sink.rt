@@ -1,4 +1,4 @@
-ghost use Rattle.std.specs.Prelude.{◌≡◌, ◌++◌, [], length, IsTrue, IsErr, IfOk, OnOk, OnErr, Some};
+ghost use Rattle.std.specs.Prelude.{◌≡◌, ◌++◌, ◌≤◌, [], length, IsTrue, IsErr, IfOk, OnOk, OnErr, Some};
 ghost use Rattle.mx_store.specs.Calls.{CountsErrors, Rose};
 ghost use Rattle.mx_store.specs.Memory.{next_call};
 ghost use Rattle.mx_store.specs.Streams.{Adds, is_to_fail};
@@ -72,21 +72,6 @@ impl BytesSink {
         self.bytes.extend_from_slice(piece)?;
         Ok(())
     }
-
-    fn write_on(&mut self, piece: &[u8]) -> Result<usize, Failed>
-        ensures fails { IsTrue (is_to_fail self.old.fails self.old.calls) → IsErr result }
-        ensures count { IfOk result (λ n. n ≡ length piece.now) }
-        ensures ok { OnOk result (self.new.written ≡ self.old.written ++ piece.now) }
-        ensures err { OnErr result (self.new.written ≡ self.old.written) }
-        ensures faults { CountsErrors self.old.faults self.new.faults result }
-        ensures calls { self.new.calls ≡ next_call self.old.calls }
-        ensures same_fails { self.new.fails ≡ self.old.fails }
-    {
-        if self.begin() || self.add(piece).is_err() {
-            return Err(self.failed());
-        }
-        Ok(piece.len())
-    }
 }
 
 impl Sink for BytesSink {
@@ -94,7 +79,19 @@ impl Sink for BytesSink {
 
     ghost faults = { λ s. s.faults };
 
-    fn write(&mut self, piece: &[u8]) -> Result<usize, Failed> {
-        self.write_on(piece)
+    // Want of memory is a failure too, so the fate is said one way.
+    fn write(&mut self, piece: &[u8]) -> Result<usize, Failed>
+        ensures bound { IfOk result (λ n. n ≤ length piece.now) }
+        ensures bytes { Adds (Some self.old.written) (Some self.new.written) piece.now result }
+        ensures cause { CountsErrors self.old.faults self.new.faults result }
+        ensures fate { IsTrue (is_to_fail self.old.fails self.old.calls) → IsErr result }
+        ensures count { IfOk result (λ n. n ≡ length piece.now) }
+        // the calls that are to fail stay
+        ensures calls { self.new ≡ record self.old { written = self.new.written; calls = next_call self.old.calls; faults = self.new.faults } }
+    {
+        if self.begin() || self.add(piece).is_err() {
+            return Err(self.failed());
+        }
+        Ok(piece.len())
     }
 }

@@ -1,4 +1,4 @@
-ghost use Rattle.std.specs.Prelude.{◌≡◌, ◌++◌, ◌+◌, ◌-◌, ◌<◌, ◌≤◌, ℕ, length, take, drop, min, IsTrue, is_err, IfOk, Some};
+ghost use Rattle.std.specs.Prelude.{◌≡◌, ◌+◌, ◌-◌, ◌<◌, ◌≤◌, length, take, drop, min, is_err, IfOk, Some};
 ghost use Rattle.mx_store.specs.Calls.{CountsErrors, Rose};
 ghost use Rattle.mx_store.specs.Memory.{next_call};
 ghost use Rattle.mx_store.specs.Streams.{Takes, is_to_fail, stop_after};
@@ -97,23 +97,6 @@ impl BytesSource {
         self.at += count;
         count
     }
-
-    fn read_on(&mut self, buf: &mut [u8]) -> Result<usize, Failed>
-        ensures fails { is_err result ≡ is_to_fail self.old.fails self.old.calls }
-        ensures count { IfOk result (λ n. n ≡ min (stop_after self.old.cuts self.old.at (self.old.at + length self.old.left) - self.old.at) (length buf.new)) }
-        ensures bytes { Takes (Some self.old.left) (Some self.new.left) buf.new result }
-        ensures faults { CountsErrors self.old.faults self.new.faults result }
-        ensures calls { self.new.calls ≡ next_call self.old.calls }
-        ensures place { IfOk result (λ n. self.new.at ≡ self.old.at + n) }
-        ensures cuts { self.new.cuts ≡ self.old.cuts }
-        ensures same_fails { self.new.fails ≡ self.old.fails }
-    {
-        if self.begin() {
-            return Err(self.failed());
-        }
-        let stop = self.stop();
-        Ok(self.take_to(stop, buf))
-    }
 }
 
 impl Source for BytesSource {
@@ -121,7 +104,20 @@ impl Source for BytesSource {
 
     ghost faults = { λ s. s.faults };
 
-    fn read(&mut self, buf: &mut [u8]) -> Result<usize, Failed> {
-        self.read_on(buf)
+    fn read(&mut self, buf: &mut [u8]) -> Result<usize, Failed>
+        ensures bound { IfOk result (λ n. n ≤ length buf.new) }
+        ensures bytes { Takes (Some self.old.left) (Some self.new.left) buf.new result }
+        ensures cause { CountsErrors self.old.faults self.new.faults result }
+        ensures fate { is_err result ≡ is_to_fail self.old.fails self.old.calls }
+        ensures count { IfOk result (λ n. n ≡ min (stop_after self.old.cuts self.old.at (self.old.at + length self.old.left) - self.old.at) (length buf.new)) }
+        // the cuts and the calls that are to fail stay
+        ensures calls { self.new ≡ record self.old { left = self.new.left; at = self.new.at; calls = next_call self.old.calls; faults = self.new.faults } }
+        ensures place { self.new.at + length self.new.left ≡ self.old.at + length self.old.left }
+    {
+        if self.begin() {
+            return Err(self.failed());
+        }
+        let stop = self.stop();
+        Ok(self.take_to(stop, buf))
     }
 }

@@ -1,10 +1,9 @@
 // The calls of a store in memory.
-ghost use Rattle.std.specs.Prelude.{◌≡◌, ◌++◌, [], ◌∷◌, true, Some, is_some, is_none, IsErrOf};
-ghost use Rattle.mx_store.specs.Objects.{at_path, objects_of};
-ghost use Rattle.mx_store.specs.Calls.{Counts, Creates, Puts, Deletes, Reads, range_of};
-ghost use Rattle.mx_store.specs.Memory.{fate, next_call, MeetsFate, added_by_failing};
+ghost use Rattle.std.specs.Prelude.{◌≡◌, true, Some, is_some, is_none, IfOk};
+ghost use Rattle.mx_store.specs.Objects.{at_path, objects_of, paths_with};
+ghost use Rattle.mx_store.specs.Calls.{Counts, Creates, Puts, Deletes, Finds, FindsRange, Reads, range_of};
+ghost use Rattle.mx_store.specs.Memory.{FailsByNumber, AppliesByFate};
 ghost use Rattle.mx_store.specs.declared.change.Change.TheVariants.{Create, Put, Delete};
-ghost use Rattle.mx_store.specs.declared.store.StoreError.TheVariants.{Failed};
 
 use crate::memory::MemStore;
 use crate::store::{Store, StoreError};
@@ -13,86 +12,12 @@ use mx_lists::{Bytes, Listed};
 use std::alloc::Global;
 
 impl MemStore {
-    fn create_object(
-        &mut self,
-        alloc: Global,
-        path: &Path,
-        bytes: &[u8],
-    ) -> Result<bool, StoreError>
-        ensures journal { Creates path.now bytes.now (Some self.old.changes) (Some self.new.changes) result }
-        ensures reads { self.new.reads ≡ self.old.reads }
-        ensures faults { Counts self.old.faults self.new.faults result }
-        ensures calls { self.new.calls ≡ next_call self.old.calls }
-        ensures failures { self.new.failures ≡ self.old.failures }
-        ensures fate { MeetsFate (fate self.old.failures self.old.calls) result }
-        ensures failed { IsErrOf result Failed → self.new.changes ≡ self.old.changes
-            ++ added_by_failing (fate self.old.failures self.old.calls) (is_none (at_path (objects_of self.old.changes) path.now)) (Create path.now bytes.now) }
-    {
-        let stands = self.holds(path);
-        let Some(applied) = self.begin() else {
-            if stands {
-                return Ok(false);
-            }
-            self.made(alloc, path, bytes)?;
-            return Ok(true);
-        };
-        if applied && !stands {
-            self.made(alloc, path, bytes)?;
-        }
-        Err(self.failed())
-    }
-
-    fn put_object(&mut self, alloc: Global, path: &Path, bytes: &[u8]) -> Result<(), StoreError>
-        ensures journal { Puts path.now bytes.now (Some self.old.changes) (Some self.new.changes) result }
-        ensures reads { self.new.reads ≡ self.old.reads }
-        ensures faults { Counts self.old.faults self.new.faults result }
-        ensures calls { self.new.calls ≡ next_call self.old.calls }
-        ensures failures { self.new.failures ≡ self.old.failures }
-        ensures fate { MeetsFate (fate self.old.failures self.old.calls) result }
-        ensures failed { IsErrOf result Failed → self.new.changes ≡ self.old.changes
-            ++ added_by_failing (fate self.old.failures self.old.calls) true (Put path.now bytes.now) }
-    {
-        let Some(applied) = self.begin() else {
-            return Ok(self.placed(alloc, path, bytes)?);
-        };
-        if applied {
-            self.placed(alloc, path, bytes)?;
-        }
-        Err(self.failed())
-    }
-
-    fn delete_object(&mut self, path: &Path) -> Result<bool, StoreError>
-        ensures journal { Deletes path.now (Some self.old.changes) (Some self.new.changes) result }
-        ensures reads { self.new.reads ≡ self.old.reads }
-        ensures faults { Counts self.old.faults self.new.faults result }
-        ensures calls { self.new.calls ≡ next_call self.old.calls }
-        ensures failures { self.new.failures ≡ self.old.failures }
-        ensures fate { MeetsFate (fate self.old.failures self.old.calls) result }
-        ensures failed { IsErrOf result Failed → self.new.changes ≡ self.old.changes
-            ++ added_by_failing (fate self.old.failures self.old.calls) (is_some (at_path (objects_of self.old.changes) path.now)) (Delete path.now) }
-    {
-        let stands = self.holds(path);
-        let Some(applied) = self.begin() else {
-            if !stands {
-                return Ok(false);
-            }
-            self.unset(path.clone()?)?;
-            return Ok(true);
-        };
-        if applied && stands {
-            self.unset(path.clone()?)?;
-        }
-        Err(self.failed())
-    }
-
     // Counts a read, notes its path, and fails where it is to.
     fn begin_read(&mut self, path: &Path) -> Result<(), StoreError>
         ensures changes { self.new.changes ≡ self.old.changes }
         ensures reads { Reads path.now (Some self.old.reads) (Some self.new.reads) result }
         ensures faults { Counts self.old.faults self.new.faults result }
-        ensures calls { self.new.calls ≡ next_call self.old.calls }
-        ensures failures { self.new.failures ≡ self.old.failures }
-        ensures fate { MeetsFate (fate self.old.failures self.old.calls) result }
+        ensures number { FailsByNumber self.old self.new result }
     {
         let fails = self.begin().is_some();
         self.note(path)?;
@@ -106,9 +31,7 @@ impl MemStore {
         ensures changes { self.new.changes ≡ self.old.changes }
         ensures reads { self.new.reads ≡ self.old.reads }
         ensures faults { Counts self.old.faults self.new.faults result }
-        ensures calls { self.new.calls ≡ next_call self.old.calls }
-        ensures failures { self.new.failures ≡ self.old.failures }
-        ensures fate { MeetsFate (fate self.old.failures self.old.calls) result }
+        ensures number { FailsByNumber self.old self.new result }
     {
         if self.begin().is_some() {
             return Err(self.failed());
@@ -124,12 +47,24 @@ impl Store for MemStore {
 
     ghost faults = { λ m. m.faults };
 
-    fn list(&mut self, alloc: Global, prefix: &str) -> Result<Listed<Path>, StoreError> {
+    fn list(&mut self, alloc: Global, prefix: &str) -> Result<Listed<Path>, StoreError>
+        ensures told { IfOk result (λ paths. paths ≡ paths_with prefix.now (objects_of self.old.changes)) }
+        ensures journal { self.new.changes ≡ self.old.changes }
+        ensures reads { self.new.reads ≡ self.old.reads }
+        ensures faults { Counts self.old.faults self.new.faults result }
+        ensures number { FailsByNumber self.old self.new result }
+    {
         self.begin_list()?;
         Ok(self.listed(alloc, prefix)?)
     }
 
-    fn get(&mut self, _alloc: Global, path: &Path) -> Result<Option<Bytes>, StoreError> {
+    fn get(&mut self, _alloc: Global, path: &Path) -> Result<Option<Bytes>, StoreError>
+        ensures told { Finds path.now (Some self.old.changes) result }
+        ensures journal { self.new.changes ≡ self.old.changes }
+        ensures reads { Reads path.now (Some self.old.reads) (Some self.new.reads) result }
+        ensures faults { Counts self.old.faults self.new.faults result }
+        ensures number { FailsByNumber self.old self.new result }
+    {
         self.begin_read(path)?;
         match self.found(path) {
             Some(bytes) => Ok(Some(bytes.clone()?)),
@@ -143,7 +78,13 @@ impl Store for MemStore {
         path: &Path,
         at: u64,
         len: u64,
-    ) -> Result<Option<Bytes>, StoreError> {
+    ) -> Result<Option<Bytes>, StoreError>
+        ensures told { FindsRange path.now at len (Some self.old.changes) result }
+        ensures journal { self.new.changes ≡ self.old.changes }
+        ensures reads { Reads path.now (Some self.old.reads) (Some self.new.reads) result }
+        ensures faults { Counts self.old.faults self.new.faults result }
+        ensures number { FailsByNumber self.old self.new result }
+    {
         self.begin_read(path)?;
         match self.found(path) {
             Some(bytes) => Ok(Some(Bytes::from_slice(alloc, range(bytes.as_slice(), at, len))?)),
@@ -151,16 +92,62 @@ impl Store for MemStore {
         }
     }
 
-    fn create(&mut self, alloc: Global, path: &Path, bytes: &[u8]) -> Result<bool, StoreError> {
-        self.create_object(alloc, path, bytes)
+    fn create(&mut self, alloc: Global, path: &Path, bytes: &[u8]) -> Result<bool, StoreError>
+        ensures journal { Creates path.now bytes.now (Some self.old.changes) (Some self.new.changes) result }
+        ensures failed { AppliesByFate (is_none (at_path (objects_of self.old.changes) path.now)) (Create path.now bytes.now) self.old self.new result }
+        ensures reads { self.new.reads ≡ self.old.reads }
+        ensures faults { Counts self.old.faults self.new.faults result }
+        ensures number { FailsByNumber self.old self.new result }
+    {
+        let stands = self.holds(path);
+        let Some(applied) = self.begin() else {
+            if stands {
+                return Ok(false);
+            }
+            self.made(alloc, path, bytes)?;
+            return Ok(true);
+        };
+        if applied && !stands {
+            self.made(alloc, path, bytes)?;
+        }
+        Err(self.failed())
     }
 
-    fn put(&mut self, alloc: Global, path: &Path, bytes: &[u8]) -> Result<(), StoreError> {
-        self.put_object(alloc, path, bytes)
+    fn put(&mut self, alloc: Global, path: &Path, bytes: &[u8]) -> Result<(), StoreError>
+        ensures journal { Puts path.now bytes.now (Some self.old.changes) (Some self.new.changes) result }
+        ensures failed { AppliesByFate true (Put path.now bytes.now) self.old self.new result }
+        ensures reads { self.new.reads ≡ self.old.reads }
+        ensures faults { Counts self.old.faults self.new.faults result }
+        ensures number { FailsByNumber self.old self.new result }
+    {
+        let Some(applied) = self.begin() else {
+            return Ok(self.placed(alloc, path, bytes)?);
+        };
+        if applied {
+            self.placed(alloc, path, bytes)?;
+        }
+        Err(self.failed())
     }
 
-    fn delete(&mut self, _alloc: Global, path: &Path) -> Result<bool, StoreError> {
-        self.delete_object(path)
+    fn delete(&mut self, _alloc: Global, path: &Path) -> Result<bool, StoreError>
+        ensures journal { Deletes path.now (Some self.old.changes) (Some self.new.changes) result }
+        ensures failed { AppliesByFate (is_some (at_path (objects_of self.old.changes) path.now)) (Delete path.now) self.old self.new result }
+        ensures reads { self.new.reads ≡ self.old.reads }
+        ensures faults { Counts self.old.faults self.new.faults result }
+        ensures number { FailsByNumber self.old self.new result }
+    {
+        let stands = self.holds(path);
+        let Some(applied) = self.begin() else {
+            if !stands {
+                return Ok(false);
+            }
+            self.unset(path.clone()?)?;
+            return Ok(true);
+        };
+        if applied && stands {
+            self.unset(path.clone()?)?;
+        }
+        Err(self.failed())
     }
 }
 

@@ -1,4 +1,6 @@
-use crate::{BytesSink, BytesSource, Failed, MemStore, Sink, Source, Store, StoreError};
+use crate::{
+    BytesSink, BytesSource, Failed, MemStore, QuietStore, Sink, Source, Store, StoreError,
+};
 use mx_base::Path;
 use mx_lists::{Bytes, Listed};
 use std::alloc::Global;
@@ -15,7 +17,7 @@ enum Call {
 }
 
 // What the call answers: "yes" or "no", the bytes that it found or "-", the paths with a space behind each, or "failed".
-fn answer(alloc: Global, store: &mut MemStore, call: Call) -> Result<Vec<u8>, Fail> {
+fn answer<S: Store>(alloc: Global, store: &mut S, call: Call) -> Result<Vec<u8>, Fail> {
     match call {
         Call::Create(path, bytes) => {
             let path = Path::parse(alloc, path)?;
@@ -118,15 +120,20 @@ const FAILURES: [(u64, bool); 8] = [
     (28, false),
 ];
 
+fn failing(alloc: Global) -> Result<MemStore, Fail> {
+    let mut store = MemStore::empty(alloc);
+    for (call, applied) in FAILURES {
+        store.fail(call, applied)?;
+    }
+    Ok(store)
+}
+
 #[test]
 fn a_store_in_memory_answers_by_its_journal_and_fails_where_it_is_told(
     rt: HostRuntime,
 ) -> Result<(), Fail> {
     let alloc = rt.alloc();
-    let mut store = MemStore::empty(alloc);
-    for (call, applied) in FAILURES {
-        store.fail(call, applied)?;
-    }
+    let mut store = failing(alloc)?;
     for (call, expected) in CALLS {
         assert_eq!(rt;
             answer(alloc, &mut store, call)?.as_slice(),
@@ -136,6 +143,20 @@ fn a_store_in_memory_answers_by_its_journal_and_fails_where_it_is_told(
     }
     assert_eq!(rt; store.journal().len(), 8);
     assert_eq!(rt; store.reads().len(), 14);
+    Ok(())
+}
+
+#[test]
+fn a_store_that_tells_nothing_answers_and_fails_alike(rt: HostRuntime) -> Result<(), Fail> {
+    let alloc = rt.alloc();
+    let mut store = QuietStore::over(failing(alloc)?);
+    for (call, expected) in CALLS {
+        assert_eq!(rt;
+            answer(alloc, &mut store, call)?.as_slice(),
+            expected,
+            "at {call:?}"
+        );
+    }
     Ok(())
 }
 

@@ -1,11 +1,11 @@
 -- A reader gives what bytes stand for, whatever follows, and takes from the front bytes that stand for what it gives.
-use Rattle.std.proofs.Common.{◌≡◌, ℕ, zero, suc, ◌+◌, ◌*◌, ◌/◌, ◌%◌, ◌^◌, ◌<◌, ◌≤◌, ℤ, pos, negsuc, Bool, true, false, cond, eqb, ltb, List, [], ◌∷◌, ◌++◌, length, take, drop, Ok, Err, refl, sym, ap, subst, ◌∙◌, append_assoc, length-append, take-append-drop, length-take, arith, inl, inr, ◌⊎◌}
-use Rattle.std.proofs.lemmas.Bool.{cases_eq, ltb-true, ltb-false, lt-ltb, le-ltb}
-use Rattle.std.proofs.lemmas.Bool.Decides.{nat_tests}
+use Rattle.std.proofs.Common.{◌≡◌, ℕ, zero, suc, ◌+◌, ◌*◌, ◌%◌, ◌^◌, ◌<◌, ◌≤◌, Bool, true, false, cond, ltb, List, [], ◌∷◌, ◌++◌, length, take, drop, Ok, Err, refl, sym, ap, subst, ◌∙◌, append_assoc, length-append, take-append-drop, length-take, arith, inl, inr, ◌⊎◌}
+use Rattle.std.proofs.lemmas.Bool.{ltb-true, ltb-false, lt-ltb, le-ltb}
 use Rattle.std.proofs.Math.Seq.{drop-append_seam, take-append_seam}
 use Rattle.mx_avro.specs.Encoding.{zigzag}
 use Rattle.mx_avro.specs.Decoding.{signed}
 use Rattle.mx_avro.proofs.Groups.{IsBytes}
+use Rattle.mx_avro.proofs.Longs.{signed-zigzag, zigzag-signed}
 use Rattle.mx_thrift.specs.declared.error.Rule.{Rule}
 use Rattle.mx_thrift.specs.declared.error.Rule.TheVariants as rules
 use Rattle.mx_thrift.specs.Grammar.{Grammar, IsGroups, groups_value, IsNumber, IsSigned, IsText, InTurn, InPairs}
@@ -125,22 +125,6 @@ number_codec limit = record {
       let g = groups_takes (length bytes) 10 bytes h.0 h.1 in
       subst (Took (IsNumber limit) bytes) t.1 (record { text = g.text; parts = g.parts; means = record { groups = g.groups; most = g.most; value = g.value; below = ltb-true _ _ t.0 } });
 }
-
-signed-zigzag : (n : ℤ) → signed (zigzag n) ≡ n
-signed-zigzag (pos n) =
-    let even : eqb (2 * n % 2) 0 ≡ true = grind (arith, nat_tests) in
-    let half : 2 * n / 2 ≡ n = omega arith in
-    rw (even, half) refl
-signed-zigzag (negsuc n) =
-    let odd : eqb ((2 * n + 1) % 2) 0 ≡ false = grind (arith, nat_tests) in
-    let half : (2 * n + 1) / 2 ≡ n = omega arith in
-    rw (odd, half) refl
-
-zigzag-signed : (n : ℕ) → zigzag (signed n) ≡ n
-zigzag-signed n = elim (cases_eq (n % 2) 0) [
-  | inl even ↦ let test : eqb (n % 2) 0 ≡ true = grind (arith, nat_tests) in rw test (omega arith)
-  | inr odd ↦ let test : eqb (n % 2) 0 ≡ false = grind (arith, nat_tests) in rw test (omega arith)
-]
 
 -- a value that is read as another
 pub mapped_codec : {A B : Type 0} {read : Reader A} {G : Grammar A} (f : A → B) → Codec read G → Codec (mapped f read) (λ bytes y. (x : A) × G bytes x × (y ≡ f x))

@@ -1,10 +1,9 @@
 -- Values of any depth, and the struct at a place.
 use Rattle.std.proofs.Common.{◌≡◌, ℕ, zero, suc, ◌+◌, ◌-◌, List, ◌++◌, length, take, drop, Result, Ok, Err, refl, sym, ap, subst, ◌∙◌, length-append, drop-drop, arith}
 use Rattle.std.proofs.Math.Seq.{drop-append_seam, take-append_seam}
-use Rattle.std.proofs.lemmas.List.{get_or-drop}
 use Rattle.std.specs.Prelude.{IfOk}
 use Rattle.mx_avro.specs.Decoding.{StandsAt}
-use Rattle.mx_avro.proofs.Groups.{IsBytes}
+use Rattle.mx_lists.proofs.Codecs.{IsBytes, IsBytes-drop}
 use Rattle.mx_thrift.specs.declared.error.ThriftError.{ThriftError}
 use Rattle.mx_thrift.specs.declared.error.ThriftError.TheVariants as errors
 use Rattle.mx_thrift.specs.declared.kind.Kind.{Kind}
@@ -47,9 +46,6 @@ answered x = Ok x
 
 answer_is : {A : Type 0} (a b : A × ℕ) → answered a ≡ answered b → a ≡ b
 answer_is a b e = cc
-
-IsBytes-drop : (at : ℕ) (bytes : List ℕ) → IsBytes bytes → IsBytes (drop at bytes)
-IsBytes-drop at bytes h i = rw get_or-drop (h (at + i))
 
 placed_ok : {A : Type 0} (at len : ℕ) (r : Read (A × List ℕ)) (x : A × ℕ) → placed at len r ≡ Ok x → (y : A × List ℕ) × (r ≡ Ok y) × ((y.0, at + (len - length y.1)) ≡ x)
 placed_ok at len (Ok y) x e = (y, refl, answer_is _ _ e)

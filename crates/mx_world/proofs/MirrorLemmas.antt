@@ -8,12 +8,11 @@ use Rattle.std.specs.Ordering.{nat_cmp, eq_by_cmp}
 use Rattle.std.specs.Cmp.{nat_cmp_total, eq_by_cmp_equiv}
 use Rattle.std.specs.Cmp.Lexicographic.{slice_cmp}
 use Rattle.std.specs.FinMap as finmap
-use Rattle.std.proofs.lemmas.Bool.{and_parts}
+use Rattle.std.proofs.lemmas.Bool.{and_parts, and_from}
 use Rattle.std.proofs.lemmas.Bool.Decides.{Decides-ltb}
 use Rattle.std.specs.Prelude.{nat_lt}
 use Rattle.std.proofs.lemmas.Map.Lookups.{exact_unsigned}
 use Rattle.std.proofs.lemmas.Map.Views.{tells_apart}
-use Rattle.mx_base.proofs.NameLemmas.{both}
 use Rattle.mx_base.specs.Objects.{IsObjectName, is_instant, object_path}
 use Rattle.mx_base.specs.Paths.{commit_path, commit_instant}
 use Rattle.mx_base.specs.declared.object_name.ObjectName.TheVariants.{Config}
@@ -45,7 +44,7 @@ is_of path at None is test = absurd (cc test)
 is_of path at (Some n) is test = is ∙ ap (λ (x : ℕ). Some x) (same_number n at test)
 
 small_test : (at : ℕ) → 0 < at → at < 10 ^ 17 → IsObjectName (commit_name at)
-small_test at positive small = both (nat_lt 0 at) (is_instant at) ((Decides-ltb 0 at).1 positive) ((Decides-ltb at (10 ^ 17)).1 small)
+small_test at positive small = and_from (nat_lt 0 at) (is_instant at) ((Decides-ltb 0 at).1 positive) ((Decides-ltb at (10 ^ 17)).1 small)
 
 pub commit_of : (path : List ℕ) (at : ℕ) → is_commit_at path at ≡ true → IsObjectName (commit_name at) × (path ≡ object_path (commit_name at))
 commit_of path at test =

@@ -29,6 +29,7 @@ pub enum Outcome {
 /// Asks the store for the change.
 pub fn make<S: Store>(alloc: Global, store: &mut S, change: &Change) -> Outcome
     ensures makes { Makes change.now (S.journal store.old) (S.journal store.new) result }
+    ensures reads { S.reads store.new ≡ S.reads store.old }
     ensures faults { CountsOutcome (S.faults store.old) (S.faults store.new) result }
 {
     let made = match change {
@@ -46,6 +47,7 @@ fn put<S: Store>(
     bytes: &Bytes,
 ) -> Result<bool, StoreError>
     ensures makes { Makes (Put path.now bytes.now) (S.journal store.old) (S.journal store.new) (spec.outcome_of result) }
+    ensures reads { S.reads store.new ≡ S.reads store.old }
     ensures faults { Counts (S.faults store.old) (S.faults store.new) result }
 {
     store.put(alloc, path, bytes.as_slice())?;

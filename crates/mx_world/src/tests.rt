@@ -5,54 +5,10 @@ use mx_base::{Instant, Part, Path};
 use mx_lists::{Bytes, Listed};
 use mx_props::Props;
 use mx_schema::Schema;
-use mx_store::{Change, MemStore, Store, StoreError};
+use mx_store::{Change, MemStore, QuietStore, Store};
 use std::alloc::Global;
 use std::marker::Brand;
 use std::test::Fail;
-
-// A store in memory that tells nothing, as one over a disk does.
-#[derive(Drop)]
-struct Quiet {
-    inner: MemStore,
-}
-
-impl Store for Quiet {
-    ghost journal = { λ s. None };
-
-    ghost reads = { λ s. None };
-
-    ghost faults = { λ s. s.inner.faults };
-
-    fn list(&mut self, alloc: Global, prefix: &str) -> Result<Listed<Path>, StoreError> {
-        self.inner.list(alloc, prefix)
-    }
-
-    fn get(&mut self, alloc: Global, path: &Path) -> Result<Option<Bytes>, StoreError> {
-        self.inner.get(alloc, path)
-    }
-
-    fn get_range(
-        &mut self,
-        alloc: Global,
-        path: &Path,
-        at: u64,
-        len: u64,
-    ) -> Result<Option<Bytes>, StoreError> {
-        self.inner.get_range(alloc, path, at, len)
-    }
-
-    fn create(&mut self, alloc: Global, path: &Path, bytes: &[u8]) -> Result<bool, StoreError> {
-        self.inner.create(alloc, path, bytes)
-    }
-
-    fn put(&mut self, alloc: Global, path: &Path, bytes: &[u8]) -> Result<(), StoreError> {
-        self.inner.put(alloc, path, bytes)
-    }
-
-    fn delete(&mut self, alloc: Global, path: &Path) -> Result<bool, StoreError> {
-        self.inner.delete(alloc, path)
-    }
-}
 
 const REQUESTED: &str = ".hoodie/20250101000000000.commit.requested";
 
@@ -94,30 +50,30 @@ fn table(
     alloc: Global,
     standing: &[&str],
     fails: &[(u64, bool)],
-) -> Result<World<Quiet, Brand>, Fail> {
-    let mut inner = MemStore::empty(alloc);
+) -> Result<World<QuietStore, Brand>, Fail> {
+    let mut store = MemStore::empty(alloc);
     let mut paths = Listed::new(alloc);
     for text in standing {
         let path = Path::parse(alloc, *text)?;
-        if !inner.create(alloc, &path, b"{}")? {
+        if !store.create(alloc, &path, b"{}")? {
             return Err(Fail::new("a path stands once"));
         }
         paths.push(path)?;
     }
     for &(call, applied) in fails {
-        inner.fail(call, applied)?;
+        store.fail(call, applied)?;
     }
     let mirror = Mirror::of(alloc, config(alloc)?, paths.as_slice(), &[])?;
     let Some(last) = Instant::new(MOMENT - 1) else {
         return Err(Fail::new("the moment is an instant"));
     };
-    Ok(World::over(Quiet { inner }, mirror, last, 0))
+    Ok(World::over(QuietStore::over(store), mirror, last, 0))
 }
 
 // The word of the answer to a change.
 fn change(
     alloc: Global,
-    table: &mut World<Quiet, Brand>,
+    table: &mut World<QuietStore, Brand>,
     change: Change,
 ) -> Result<&'static str, Fail> {
     if !is_plain(&change) {
@@ -133,20 +89,23 @@ fn change(
 }
 
 // Whether no other change is made before the doubt is settled, and one is behind that.
-fn is_blocked_until_settled(alloc: Global, table: &mut World<Quiet, Brand>) -> Result<bool, Fail> {
+fn is_blocked_until_settled(
+    alloc: Global,
+    table: &mut World<QuietStore, Brand>,
+) -> Result<bool, Fail> {
     let blocked = change(alloc, table, create(alloc, COMMIT)?)? == "in doubt";
     let settled = table.settle(alloc).is_ok();
     let made = change(alloc, table, create(alloc, COMMIT)?)? == "made";
     Ok(blocked && settled && made)
 }
 
-fn holds(alloc: Global, table: &World<Quiet, Brand>, path: &str) -> Result<bool, Fail> {
+fn holds(alloc: Global, table: &World<QuietStore, Brand>, path: &str) -> Result<bool, Fail> {
     let path = Path::parse(alloc, path)?;
     Ok(table.mirror().holds(&path))
 }
 
 // Whether the doubt blocks until it is settled, how many changes count then, and whether the path is known.
-fn settled(alloc: Global, table: &mut World<Quiet, Brand>) -> Result<(bool, u64, bool), Fail> {
+fn settled(alloc: Global, table: &mut World<QuietStore, Brand>) -> Result<(bool, u64, bool), Fail> {
     let blocked = is_blocked_until_settled(alloc, table)?;
     let known = holds(alloc, table, REQUESTED)?;
     Ok((blocked, table.seq(), known))
@@ -165,7 +124,7 @@ fn after_a_failed_delete(alloc: Global, applied: bool) -> Result<(bool, u64, boo
     settled(alloc, &mut table)
 }
 
-fn failed(alloc: Global, table: &mut World<Quiet, Brand>, asked: Change) -> Result<(), Fail> {
+fn failed(alloc: Global, table: &mut World<QuietStore, Brand>, asked: Change) -> Result<(), Fail> {
     if change(alloc, table, asked)? == "store fault" {
         Ok(())
     } else {
@@ -194,7 +153,10 @@ fn a_delete_that_fails_is_in_doubt_until_its_path_is_read(rt: HostRuntime) -> Re
 }
 
 // Whether the doubt stands after a get that fails, and how many changes count once it is settled.
-fn after_a_failed_get(alloc: Global, table: &mut World<Quiet, Brand>) -> Result<(bool, u64), Fail> {
+fn after_a_failed_get(
+    alloc: Global,
+    table: &mut World<QuietStore, Brand>,
+) -> Result<(bool, u64), Fail> {
     failed(alloc, table, create(alloc, REQUESTED)?)?;
     let unsettled = table.settle(alloc).is_err();
     let blocked = change(alloc, table, create(alloc, COMMIT)?)? == "in doubt";
@@ -240,7 +202,7 @@ fn the_object_that_requests_an_action_draws_its_instant(rt: HostRuntime) -> Resu
 // The words of a create where something stands, and of a delete where nothing does.
 fn declined(
     alloc: Global,
-    table: &mut World<Quiet, Brand>,
+    table: &mut World<QuietStore, Brand>,
 ) -> Result<(&'static str, &'static str), Fail> {
     let first = change(alloc, table, create(alloc, REQUESTED)?)?;
     let second = change(alloc, table, delete(alloc, COMMIT)?)?;
@@ -261,7 +223,7 @@ fn a_create_where_something_stands_is_refused(rt: HostRuntime) -> Result<(), Fai
 // Whether the commit is completed before its object is made, while that stands, and once it is deleted.
 fn completions(
     alloc: Global,
-    table: &mut World<Quiet, Brand>,
+    table: &mut World<QuietStore, Brand>,
     at: Instant,
 ) -> Result<(bool, bool, bool), Fail> {
     let before = table.mirror().is_completed(at);
@@ -272,7 +234,7 @@ fn completions(
 }
 
 // Whether the name below `.hoodie/` is known, and the one outside.
-fn known(alloc: Global, table: &mut World<Quiet, Brand>) -> Result<(bool, bool), Fail> {
+fn known(alloc: Global, table: &mut World<QuietStore, Brand>) -> Result<(bool, bool), Fail> {
     const OUTSIDE: &str = "2024-01-01/data";
     change(alloc, table, create(alloc, OUTSIDE)?)?;
     let below = holds(alloc, table, REQUESTED)?;
@@ -355,7 +317,10 @@ const TWO_FILES: &str =
     "{\"partitionToWriteStats\":{\"p\":[{\"fileId\":\"11111111-1111-4111-8111-111111111111\",\"fileSizeInBytes\":5,\"numWrites\":0,\"path\":\"p/11111111-1111-4111-8111-111111111111_0-0-0_20250101000000000.parquet\",\"prevCommit\":\"null\"},{\"fileId\":\"22222222-2222-4222-8222-222222222222\",\"fileSizeInBytes\":5,\"numWrites\":0,\"path\":\"p/22222222-2222-4222-8222-222222222222_0-0-0_20250101000000000.parquet\",\"prevCommit\":\"null\"}]}}";
 
 // The live files before a commit of two is completed, while its object stands, and once that is deleted.
-fn live_files(alloc: Global, table: &mut World<Quiet, Brand>) -> Result<(u64, u64, u64), Fail> {
+fn live_files(
+    alloc: Global,
+    table: &mut World<QuietStore, Brand>,
+) -> Result<(u64, u64, u64), Fail> {
     let before = table.mirror().live();
     change(alloc, table, create_of(alloc, COMMIT, TWO_FILES)?)?;
     let stands = table.mirror().live();

@@ -18,6 +18,7 @@ pub(crate) fn change_all<S: Store, N: Named>(
     requires plain { All IsPlain changes.items }
     requires may { MayMakeInTurn (S.journal world.old.store) world.old.doubt world.old.last changes.items }
     ensures turns { ChangesInTurn changes.items (standing S.journal world.old) (standing S.journal world.new) result }
+    ensures reads { S.reads world.new.store ≡ S.reads world.old.store }
     ensures faults { CountsFaults (S.faults world.old.store) (S.faults world.new.store) result }
 {
     let mut changes = changes;

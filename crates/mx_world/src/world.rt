@@ -119,7 +119,7 @@ impl<S: Store, N: Named> World<S, N> {
         self.store.get(alloc, path)
     }
 
-    /// Makes one change.
+    /// Makes one change, and reads nothing.
     ///
     /// The caller knows that it may be made: a create is of a path where nothing stands, a delete of one where something does, and a
     /// valid table stays one. Where the store fails, the change is in doubt, and no other is made before `settle`.
@@ -127,6 +127,7 @@ impl<S: Store, N: Named> World<S, N> {
         requires plain { IsPlain change }
         requires may { MayMake (S.journal self.old.store) self.old.doubt self.old.last change }
         ensures changes { Changes change (standing S.journal self.old) (standing S.journal self.new) result }
+        ensures reads { S.reads self.new.store ≡ S.reads self.old.store }
         ensures faults { CountsFaults (S.faults self.old.store) (S.faults self.new.store) result }
     {
         if let Some(doubt) = &self.doubt {
@@ -170,6 +171,7 @@ impl<S: Store, N: Named> World<S, N> {
         requires plain { All IsPlain changes.items }
         requires may { MayMakeInTurn (S.journal self.old.store) self.old.doubt self.old.last changes.items }
         ensures turns { ChangesInTurn changes.items (standing S.journal self.old) (standing S.journal self.new) result }
+        ensures reads { S.reads self.new.store ≡ S.reads self.old.store }
         ensures faults { CountsFaults (S.faults self.old.store) (S.faults self.new.store) result }
     {
         change_all(alloc, self, VecDeque::from(changes))

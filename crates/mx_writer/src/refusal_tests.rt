@@ -1,14 +1,12 @@
 // Commits that are refused.
-use crate::tests::{
-    MOMENT, Quiet, committed, config, file, file_with, files, made, table, table_of,
-};
+use crate::tests::{MOMENT, committed, config, file, file_with, files, made, table, table_of};
 use mx_ask::FileRows;
 use mx_base::{FileId, Instant, Partition, Path};
 use mx_lists::{Listed, Text};
 use mx_meta::{CommitMeta, PartitionStats, WriteStat};
 use mx_model::Action;
 use mx_schema::{Row, RowValue};
-use mx_store::MemStore;
+use mx_store::{MemStore, QuietStore};
 use mx_world::{Mirror, World};
 use std::alloc::{AllocError, Global};
 use std::marker::Brand;
@@ -71,11 +69,15 @@ fn crowded(
     let commits = [listing(alloc, live)?];
     let paths = requests(alloc, instants)?;
     let mirror = Mirror::of(alloc, config(alloc, "a:int64")?, paths.as_slice(), &commits)?;
-    let inner = MemStore::empty(alloc);
     let Some(last) = Instant::new(MOMENT) else {
         return Err(Fail::new("the last instant is one"));
     };
-    let mut table: World<Quiet, Brand> = World::over(Quiet { inner }, mirror, last, 0);
+    let mut table: World<QuietStore, Brand> = World::over(
+        QuietStore::over(MemStore::empty(alloc)),
+        mirror,
+        last,
+        0,
+    );
     let said = committed(alloc, &mut table, files(alloc, count)?.as_slice())?;
     Ok((said, table.seq()))
 }

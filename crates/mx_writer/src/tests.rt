@@ -3,58 +3,14 @@ ghost use Rattle.std.specs.Prelude.{◌≡◌, IfOk, None};
 use crate::{CommitError, commit};
 use mx_ask::{FileRows, Limit};
 use mx_base::{FileId, Instant, Part, Partition, Path};
-use mx_lists::{Bytes, Listed, Text};
+use mx_lists::{Listed, Text};
 use mx_props::Props;
 use mx_schema::{Row, RowValue, Schema};
-use mx_store::{MemStore, Store, StoreError};
+use mx_store::{MemStore, QuietStore};
 use mx_world::{ChangeError, Mirror, World};
 use std::alloc::{AllocError, Global};
 use std::marker::Brand;
 use std::test::Fail;
-
-// A store in memory that tells nothing, as one over a disk does.
-#[derive(Drop)]
-pub(crate) struct Quiet {
-    pub(crate) inner: MemStore,
-}
-
-impl Store for Quiet {
-    ghost journal = { λ s. None };
-
-    ghost reads = { λ s. None };
-
-    ghost faults = { λ s. s.inner.faults };
-
-    fn list(&mut self, alloc: Global, prefix: &str) -> Result<Listed<Path>, StoreError> {
-        self.inner.list(alloc, prefix)
-    }
-
-    fn get(&mut self, alloc: Global, path: &Path) -> Result<Option<Bytes>, StoreError> {
-        self.inner.get(alloc, path)
-    }
-
-    fn get_range(
-        &mut self,
-        alloc: Global,
-        path: &Path,
-        at: u64,
-        len: u64,
-    ) -> Result<Option<Bytes>, StoreError> {
-        self.inner.get_range(alloc, path, at, len)
-    }
-
-    fn create(&mut self, alloc: Global, path: &Path, bytes: &[u8]) -> Result<bool, StoreError> {
-        self.inner.create(alloc, path, bytes)
-    }
-
-    fn put(&mut self, alloc: Global, path: &Path, bytes: &[u8]) -> Result<(), StoreError> {
-        self.inner.put(alloc, path, bytes)
-    }
-
-    fn delete(&mut self, alloc: Global, path: &Path) -> Result<bool, StoreError> {
-        self.inner.delete(alloc, path)
-    }
-}
 
 pub(crate) const MOMENT: u64 = 20_250_101_000_000_000;
 
@@ -135,7 +91,11 @@ pub(crate) fn config(alloc: Global, schema: &str) -> Result<Props, Fail> {
 }
 
 // A table of no objects whose store's call of this number fails and is not applied.
-pub(crate) fn table(alloc: Global, last: u64, failing: u64) -> Result<World<Quiet, Brand>, Fail>
+pub(crate) fn table(
+    alloc: Global,
+    last: u64,
+    failing: u64,
+) -> Result<World<QuietStore, Brand>, Fail>
     ensures { IfOk result (λ table. table.doubt ≡ None) }
 {
     table_of(alloc, "a:int64", last, failing)
@@ -147,14 +107,14 @@ pub(crate) fn table_of(
     schema: &str,
     last: u64,
     failing: u64,
-) -> Result<World<Quiet, Brand>, Fail>
+) -> Result<World<QuietStore, Brand>, Fail>
     ensures { IfOk result (λ table. table.doubt ≡ None) }
 {
-    let mut inner = MemStore::empty(alloc);
-    inner.fail(failing, false)?;
+    let mut store = MemStore::empty(alloc);
+    store.fail(failing, false)?;
     let mirror = Mirror::of(alloc, config(alloc, schema)?, &[], &[])?;
     match Instant::new(last) {
-        Some(last) => Ok(World::over(Quiet { inner }, mirror, last, 0)),
+        Some(last) => Ok(World::over(QuietStore::over(store), mirror, last, 0)),
         None => Err(Fail::new("the last instant is one")),
     }
 }
@@ -194,7 +154,7 @@ pub(crate) fn files(alloc: Global, count: u32) -> Result<Vec<FileRows>, Fail> {
 // The word of the answer to a commit.
 pub(crate) fn committed(
     alloc: Global,
-    table: &mut World<Quiet, Brand>,
+    table: &mut World<QuietStore, Brand>,
     files: &[FileRows],
 ) -> Result<&'static str, Fail>
     requires sure { table.old.doubt ≡ None }
@@ -225,7 +185,7 @@ pub(crate) fn committed(
 // Whether the bytes stand at the path.
 fn stands(
     alloc: Global,
-    table: &mut World<Quiet, Brand>,
+    table: &mut World<QuietStore, Brand>,
     path: &str,
     expected: &[u8],
 ) -> Result<bool, Fail> {

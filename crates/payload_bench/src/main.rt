@@ -9,8 +9,6 @@ use std::alloc::Global;
 use std::io::Read;
 use std::{env, io};
 
-const MOST_BYTES: usize = 1 << 24;
-
 fn main(rt: HostRuntime) -> io::Result<()> {
     let alloc = rt.alloc();
     let mut words = env::args(&rt)?.skip(1);
@@ -22,26 +20,13 @@ fn main(rt: HostRuntime) -> io::Result<()> {
         Some(word) => word.as_str() == "both",
         None => true,
     };
-    let bytes = input(alloc, &mut rt.stdin())?;
+    let mut bytes = Vec::new(alloc);
+    rt.stdin().read_to_end(&mut bytes)?;
     let mut encoded = 0u64;
     for _ in 0..rounds {
         encoded = encoded.saturating_add(round(alloc, bytes.as_slice(), again)?);
     }
     println!(rt; "rounds {rounds} encoded {encoded}")
-}
-
-// All of the input, up to 16 MiB.
-fn input<R: Read>(alloc: Global, reader: &mut R) -> io::Result<Vec<u8>> {
-    let mut bytes = Vec::new(alloc);
-    let mut buffer = [0u8; 4096];
-    for _ in 0..MOST_BYTES {
-        let count = reader.read(&mut buffer)?;
-        if count == 0 {
-            break;
-        }
-        bytes.extend_from_slice(&buffer[..count])?;
-    }
-    Ok(bytes)
 }
 
 // How many bytes one round encoded.

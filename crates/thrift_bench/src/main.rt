@@ -8,34 +8,19 @@ use std::alloc::Global;
 use std::io::Read;
 use std::{env, io};
 
-const MOST_BYTES: usize = 1 << 24;
-
 fn main(rt: HostRuntime) -> io::Result<()> {
     let alloc = rt.alloc();
     let rounds = match env::args(&rt)?.nth(1) {
         Some(word) => word.as_str().parse::<u32>().unwrap_or(1),
         None => 1,
     };
-    let bytes = input(alloc, &mut rt.stdin())?;
+    let mut bytes = Vec::new(alloc);
+    rt.stdin().read_to_end(&mut bytes)?;
     let mut total = 0u64;
     for _ in 0..rounds {
         total = total.saturating_add(round(alloc, bytes.as_slice())?);
     }
     println!(rt; "rounds {rounds} bytes {total}")
-}
-
-// All of the input, up to 16 MiB.
-fn input<R: Read>(alloc: Global, reader: &mut R) -> io::Result<Vec<u8>> {
-    let mut bytes = Vec::new(alloc);
-    let mut buffer = [0u8; 4096];
-    for _ in 0..MOST_BYTES {
-        let count = reader.read(&mut buffer)?;
-        if count == 0 {
-            break;
-        }
-        bytes.extend_from_slice(&buffer[..count])?;
-    }
-    Ok(bytes)
 }
 
 // How many bytes the struct of one round has.

@@ -2,9 +2,10 @@ use Rattle.std.proofs.Common.{rules, ◌≡◌, ◌-◌, length, map, take, drop
 use Rattle.std.proofs.lemmas.Bool.{eq-eqb}
 use Rattle.std.proofs.lemmas.Bool.Decides.{nat_tests}
 use Rattle.std.proofs.lemmas.Result.{err_from_is_err_and}
-use Rattle.mx_hfile.specs.Decoding.{Fails, HasCause, trailer_in, index_in, blocks_in}
+use Rattle.mx_lists.specs.Reading.{Fails}
+use Rattle.mx_hfile.specs.Decoding.{HasCause, trailer_in, index_in, blocks_in}
 use Rattle.mx_hfile.specs.Seen.{seen, said}
-use Rattle.mx_hfile.proofs.FieldLemmas.{IsBytes, IsBytes-take, IsBytes-drop}
+use Rattle.mx_lists.proofs.Codecs.{IsBytes, IsBytes-take, IsBytes-drop}
 use Rattle.mx_hfile.proofs.PlaceLemmas.{index_takes, covers}
 use Rattle.mx_hfile.proofs.FileSteps.{bad_len, bad_trailer, bad_index, bad_data, file_in-data, counted_data, index_bytes}
 use Rattle.mx_hfile.proofs.reading.file_of.Goals as goal

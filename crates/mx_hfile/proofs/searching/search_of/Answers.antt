@@ -1,6 +1,6 @@
 use Rattle.std.proofs.Common.{◌≡◌, ◌-◌, ◌∙◌, length, false, eqb, Option, ℕ, Result, arith, sym, subst}
-use Rattle.mx_hfile.specs.Decoding.{Gives}
-use Rattle.mx_hfile.proofs.FieldLemmas.{IsBytes}
+use Rattle.mx_lists.specs.Reading.{Gives}
+use Rattle.mx_lists.proofs.Codecs.{IsBytes}
 use Rattle.mx_hfile.proofs.SearchLemmas.{body-left, search_whole}
 use Rattle.mx_hfile.proofs.searching.search_of.Goals as goal
 

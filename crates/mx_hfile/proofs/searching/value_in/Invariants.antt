@@ -1,5 +1,6 @@
 use Rattle.std.proofs.Common.{◌≡◌, ◌≤◌, ◌-◌, length, Ok}
-use Rattle.mx_hfile.specs.Decoding.{◌>>=◌, entries_in}
+use Rattle.mx_lists.specs.Reading.{◌>>=◌}
+use Rattle.mx_hfile.specs.Decoding.{entries_in}
 use Rattle.mx_hfile.specs.Seen.{earlier}
 use Rattle.mx_hfile.specs.Ranges.{value_place, search_body}
 use Rattle.mx_hfile.proofs.searching.value_in.Given as goal

@@ -3,8 +3,8 @@ use Rattle.std.specs.Prelude.{IfSome, Option, Some, None}
 use Rattle.mx_store.specs.Streams.{added, before}
 use Rattle.mx_lines.specs.Ahead.{CountsBytes}
 use Rattle.mx_lines.proofs.Counting.{counts-same, counts-trans}
-use Rattle.mx_lines.specs.Lines.{lines_of, LinesGo}
-use Rattle.mx_lines.proofs.Lines.{line_on, lines_start, lines_done}
+use Rattle.mx_lines.specs.Lines.{lines_of, LinesAreCut, LinesGo}
+use Rattle.mx_lines.proofs.Lines.{line_on, lines_cut, lines_start, lines_done}
 use Rattle.mx_lines.proofs.Pieces.{added-nothing, before-nothing}
 use Rattle.mx_hub.specs.declared.answered.Answered.{Answered}
 use Rattle.mx_hub.specs.declared.serving.Ending.TheVariants as ending
@@ -118,6 +118,14 @@ returns-in-Err-TooLong-clause-too_long g c = λ _.
     let i = c.loop-line.invariant in
     subst (λ (t : ℕ). CountsBytes 0 (g.I.Source.left c.args.source.now) t (g.I.Source.left c.next_line.new.source)) (c.next_line.ensures.too_long (search rules))
     (counts-trans 0 _ _ (g.I.Source.left c.args.source.now) (g.I.Source.left c.loop-line.source) (g.I.Source.left c.next_line.new.source) i.count c.next_line.ensures.count)
+
+pub returns-in-Err-TooLong-clause-cut : goal.returns-in-Err-TooLong-clause-cut
+returns-in-Err-TooLong-clause-cut g c = λ _.
+    let i = c.loop-line.invariant in
+    subst (λ (l : List Answered). LinesAreCut (g.I.Source.left c.args.source.now) (length l) (g.I.Source.left c.next_line.new.source)) (sym c.stop_with-in-Err-TooLong.ensures.answers)
+    (lines_cut (g.I.Source.left c.args.source.now) i.lines _ (g.I.Source.left c.next_line.new.source) (length c.loop-line.answers) i.taken
+    (same_length g.N.Named.opening 0 i.lines c.loop-line.answers (moment g.S.Store.journal g.S.Store.faults c.args.table.now) (moment g.S.Store.journal g.S.Store.faults c.loop-line.table) i.fits)
+    (c.next_line.ensures.cut (search rules)))
 
 fewer : (input left : Option (List ℕ)) (taken : ℕ) → CountsBytes 0 input taken left → IfSome left (λ (l : List ℕ). l ≡ []) → taken < 2 ^ 40 → IfSome input (λ (l : List ℕ). length l < 2 ^ 40)
 fewer None left taken count none less = tt

@@ -7,13 +7,14 @@ use Rattle.mx_merge.specs.declared.run.Run.TheVariants as runs
 use Rattle.mx_merge.specs.declared.known.Known.{Known}
 use Rattle.mx_merge.specs.declared.known.Known.TheVariants.{Said}
 use Rattle.mx_merge.specs.Said.{heard, known_at, KnownMap}
-use Rattle.mx_merge.proofs.MetLemmas.{met, on_ok}
+use Rattle.std.proofs.lemmas.Result.{on_ok_weaker}
+use Rattle.mx_merge.proofs.MetLemmas.{met}
 use Rattle.mx_merge.proofs.merging.meet.Goals as goal
 
 pub returns-in-Some-clause-known : goal.returns-in-Some-clause-known
 returns-in-Some-clause-known c =
     let after = c.push.new.self in
-    on_ok c.push.result (λ (is : after ≡ heard c.in-Some.known.now c.args.entry.now.value).
+    on_ok_weaker c.push.result (λ (is : after ≡ heard c.in-Some.known.now c.args.entry.now.value).
     met c.args.met.now (c.get_mut.follows.lender after) c.args.entry.now.key c.args.entry.now.value (Some c.in-Some.known.now) after
     c.in-Some.ensures.value is ((c.get_mut.follows.holds after).3 (search rules)))
     (subst (λ (v : List ℕ). OnOk c.push.result (after ≡ heard c.in-Some.known.now v)) c.as_slice-value.ensures c.push.ensures.known)

@@ -3,7 +3,7 @@ use Rattle.std.proofs.lemmas.Result.{err_from_is_err_and}
 use Rattle.std.proofs.lemmas.Map.Iter.{btree_map_turn, rest_so_far, rest_more}
 use Rattle.std.specs.Cmp.Lexicographic.{nat_list_cmp_total}
 use Rattle.mx_merge.specs.declared.known.Known.{Known}
-use Rattle.mx_merge.proofs.TreeLemmas.{map_same}
+use Rattle.std.proofs.lemmas.List.{map-id}
 use Rattle.mx_merge.proofs.EntryLemmas.{known_here, entries-push, stops}
 use Rattle.mx_merge.proofs.merging.shown_entries.Goals as goal
 
@@ -23,5 +23,5 @@ returns-in_err-push_shown-clause-tells c =
     let all = rest_so_far (λ (x : List ℕ × Known). x) c.loop-key.yielded c.into_iter-key-iterator.result c.loop-key.key-iterator c.loop-key.yielded_by in
     let one = rest_more (λ (x : List ℕ × Known). x) c.loop-key.key-iterator c.next.new.self c.next.result (c.in-Some.key, c.in-Some.known) c.in-Some.is c.next.ensures.steps in
     let parts : c.args.met.entries ≡ c.loop-key.yielded ++ (c.in-Some.key, c.in-Some.known) ∷ c.next.new.self =
-    sym c.into_iter-key-iterator.ensures.into_iter_gives.0 ∙ all ∙ ap (λ (xs : List (List ℕ × Known)). xs ++ c.loop-key.key-iterator) (map_same c.loop-key.yielded) ∙ ap (λ (xs : List (List ℕ × Known)). c.loop-key.yielded ++ xs) one in
+    sym c.into_iter-key-iterator.ensures.into_iter_gives.0 ∙ all ∙ ap (λ (xs : List (List ℕ × Known)). xs ++ c.loop-key.key-iterator) (map-id c.loop-key.yielded) ∙ ap (λ (xs : List (List ℕ × Known)). c.loop-key.yielded ++ xs) one in
     rw (p.1, p.2) (stops c.args.met.entries c.loop-key.yielded c.in-Some.key c.in-Some.known c.next.new.self c.in_err-push_shown.field-0.0 parts c.loop-key.invariant.shown c.in_err-push_shown.ensures.fails)

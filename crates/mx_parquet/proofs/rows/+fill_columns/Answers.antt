@@ -2,12 +2,13 @@ use Rattle.std.proofs.Common.{List, ◌≡◌, rules, length, ap, arith}
 use Rattle.std.proofs.lemmas.Result.{err_from_is_err_and}
 use Rattle.mx_schema.specs.declared.cell.Cell.{Cell}
 use Rattle.mx_parquet.proofs.FaultsSay.{chunk_without_column, column_without_chunk, column_fault, others_fault}
-use Rattle.mx_parquet.proofs.RowsSay.{all_filled, columns_filled, other_columns_refuse, on_ok, mid_filled}
+use Rattle.std.proofs.lemmas.Result.{on_ok_weaker}
+use Rattle.mx_parquet.proofs.RowsSay.{all_filled, columns_filled, other_columns_refuse, mid_filled}
 use Rattle.mx_parquet.proofs.rows.+fill_columns.Goals as goal
 
 pub returns-in_default-clause-ok : goal.returns-in_default-clause-ok
 returns-in_default-clause-ok t c =
-    on_ok c.nothing_left.result (all_filled c.args.file.now c.args.place c.args.columns.now c.args.chunks.now c.args.rows.now.items c.in_default.ensures.cases c.requires.as_long) c.nothing_left.ensures.ok
+    on_ok_weaker c.nothing_left.result (all_filled c.args.file.now c.args.place c.args.columns.now c.args.chunks.now c.args.rows.now.items c.in_default.ensures.cases c.requires.as_long) c.nothing_left.ensures.ok
 
 pub fill_columns-requires : goal.fill_columns-requires
 fill_columns-requires t c =
@@ -20,7 +21,7 @@ pub returns-clause-ok : goal.returns-clause-ok
 returns-clause-ok t c =
     let before = c.args.rows.now in
     let many : c.len.result ≡ length before.items = omega (arith, c.len.ensures, before.ok.0) in
-    on_ok c.fill_columns.result
+    on_ok_weaker c.fill_columns.result
     (columns_filled c.args.file.now c.args.place c.len.result _ _ _ _ _ _ c.in_ok-cells.cells before.items c.fill.new.rows.items c.fill_columns.new.rows.items many c.in-Some.ensures.cases.0 c.in-Some-split_first.ensures.cases.0 c.in_ok-cells.ensures.found c.requires.as_long c.in_ok-fill.ensures)
     c.fill_columns.ensures.ok
 

@@ -1,7 +1,8 @@
 use Rattle.std.proofs.Common.{ℕ, Bool, Option, Some, cond, ◌∙◌, ap, sym}
 use Rattle.std.specs.Ordering.{is_eq}
 use Rattle.std.specs.BTreeMap as tree
-use Rattle.mx_payload.proofs.Unions.{R, after-push}
+use Rattle.mx_lists.proofs.TreeLemmas.{R}
+use Rattle.mx_payload.proofs.Unions.{after-push}
 use Rattle.mx_payload.proofs.merging.put_all.Goals as goal
 
 pub loop-word-preserved : goal.loop-word-preserved

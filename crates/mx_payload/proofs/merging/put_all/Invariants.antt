@@ -1,6 +1,6 @@
 use Rattle.std.proofs.Common.{◌≡◌, ℕ, List}
 use Rattle.std.specs.BTreeMap as tree
-use Rattle.mx_payload.proofs.Unions.{R}
+use Rattle.mx_lists.proofs.TreeLemmas.{R}
 use Rattle.mx_payload.specs.Union.{after}
 use Rattle.mx_payload.proofs.merging.put_all.Given as goal
 

@@ -16,6 +16,7 @@ loop-change-preserved g c =
     record {
       plain = All-rest IsPlain c.in-Some.change c.pop_front.new.self.items c.loop-change.changes.items first c.loop-change.invariant.plain;
       may = may_then before during c.in-Some.change c.pop_front.new.self.items c.in_ok-change.ensures.changes (subst (λ (cs : List Change). MayMakeInTurn before.journal before.doubt before.last cs) first c.loop-change.invariant.may);
+      reads = search rules;
       faults = search rules;
       turns = λ after result turns. c.loop-change.invariant.turns after result
           (subst (λ (cs : List Change). ChangesInTurn cs before after result) (sym first) (turns_more before during after c.in-Some.change c.pop_front.new.self.items result c.in_ok-change.ensures.changes turns));

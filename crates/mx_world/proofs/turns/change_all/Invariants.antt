@@ -13,6 +13,7 @@ invariant-loop-change g l =
     record {
       plain : All IsPlain l.changes.items;
       may : MayMakeInTurn (journal l.world.store) l.world.doubt l.world.last l.changes.items;
+      reads : g.S.Store.reads l.world.store ≡ g.S.Store.reads l.fn.world.store;
       faults : g.S.Store.faults l.world.store ≡ g.S.Store.faults l.fn.world.store;
       turns : (after : Standing) (result : Result Unit ChangeError) → ChangesInTurn l.changes.items (standing journal l.world) after result → ChangesInTurn l.fn.changes.items (standing journal l.fn.world) after result;
     }

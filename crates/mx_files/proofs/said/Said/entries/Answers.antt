@@ -9,7 +9,7 @@ use Rattle.std.proofs.lemmas.Simd.{map-map}
 use Rattle.mx_payload.specs.Rules.{IsWellFormed}
 use Rattle.mx_files.specs.Delta.{WordMap}
 use Rattle.mx_files.specs.Said.{SaidMap, payload_of_key, entry_of}
-use Rattle.mx_files.proofs.TreeLemmas.{entries-tree}
+use Rattle.mx_lists.proofs.TreeLemmas.{entries-tree}
 use Rattle.mx_files.proofs.said.Said.entries.Goals as goal
 
 abbrev HasPayload : List ℕ × WordMap → Type 0

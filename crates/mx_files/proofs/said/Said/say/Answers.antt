@@ -3,14 +3,15 @@ use Rattle.std.specs.BTreeMap as tree
 use Rattle.std.specs.BTreeMap.{BTreeMap}
 use Rattle.std.specs.FinMap as finmap
 use Rattle.mx_files.specs.Delta.{WordMap}
-use Rattle.mx_files.proofs.MapLemmas.{R}
-use Rattle.mx_files.proofs.TreeLemmas.{with_said-tree, on_ok}
+use Rattle.std.proofs.lemmas.Result.{on_ok_weaker}
+use Rattle.mx_lists.proofs.TreeLemmas.{R}
+use Rattle.mx_files.proofs.SaidLemmas.{with_said-tree}
 use Rattle.mx_files.proofs.said.Said.say.Goals as goal
 
 pub returns-in-Some : goal.returns-in-Some
 returns-in-Some c =
     let words = c.insert.new.self in
-    on_ok c.insert.result (λ (grown : words ≡ finmap.insert c.in-Some.words.now c.args.name c.args.size).
+    on_ok_weaker c.insert.result (λ (grown : words ≡ finmap.insert c.in-Some.words.now c.args.name c.args.size).
     with_said-tree c.self.inside.words (c.get_mut.follows.lender words) c.args.self.now c.self.view_is c.args.key c.args.name c.args.size (Some c.in-Some.words.now) words
     c.in-Some.ensures.value grown ((c.get_mut.follows.holds words).3 (search rules)))
     c.insert.ensures

@@ -2,7 +2,7 @@ use Rattle.std.proofs.Common.{◌∙◌, ap, sym, subst}
 use Rattle.std.specs.FinMap as finmap
 use Rattle.mx_files.specs.Delta.{WordMap}
 use Rattle.mx_files.specs.Said.{AreLong}
-use Rattle.mx_files.proofs.TreeLemmas.{tree-insert}
+use Rattle.mx_lists.proofs.TreeLemmas.{tree-insert}
 use Rattle.mx_files.proofs.RuleLemmas.{long_insert}
 use Rattle.mx_files.proofs.words.Words.insert.Goals as goal
 

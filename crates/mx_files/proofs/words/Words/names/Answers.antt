@@ -7,7 +7,7 @@ use Rattle.std.proofs.lemmas.List.Elements.{All-push, recursion_from_All}
 use Rattle.std.proofs.lemmas.Map.Iter.{iter_end}
 use Rattle.mx_payload.specs.Rules.{IsLong, IsText, AreWords, plain}
 use Rattle.mx_files.specs.Delta.{WordMap}
-use Rattle.mx_files.proofs.TreeLemmas.{entries-tree}
+use Rattle.mx_lists.proofs.TreeLemmas.{entries-tree}
 use Rattle.mx_files.proofs.RuleLemmas.{names_keep}
 use Rattle.mx_files.proofs.words.Words.names.Goals as goal
 

@@ -1,4 +1,4 @@
-use Rattle.mx_files.proofs.TreeLemmas.{tree-empty}
+use Rattle.mx_lists.proofs.TreeLemmas.{tree-empty}
 use Rattle.mx_files.proofs.RuleLemmas.{long_none}
 use Rattle.mx_files.proofs.words.Words.new.Goals as goal
 

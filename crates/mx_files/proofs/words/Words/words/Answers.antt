@@ -8,7 +8,7 @@ use Rattle.std.proofs.lemmas.Simd.{map-map}
 use Rattle.mx_payload.specs.declared.payload.NameWord.{NameWord}
 use Rattle.mx_payload.specs.Rules.{IsLong, IsText, AreWords}
 use Rattle.mx_files.specs.Delta.{WordMap, word_of}
-use Rattle.mx_files.proofs.TreeLemmas.{entries-tree}
+use Rattle.mx_lists.proofs.TreeLemmas.{entries-tree}
 use Rattle.mx_files.proofs.RuleLemmas.{words_keep}
 use Rattle.mx_files.proofs.words.Words.words.Goals as goal
 

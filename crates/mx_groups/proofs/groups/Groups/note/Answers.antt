@@ -1,15 +1,11 @@
 use Rattle.std.proofs.Common.{sym, ◌∙◌}
-use Rattle.std.specs.Prelude.{Result, OnOk}
+use Rattle.std.proofs.lemmas.Result.{on_ok_weaker}
 use Rattle.mx_groups.proofs.NoteLemmas.{noted_commit, noted_none}
 use Rattle.mx_groups.proofs.groups.Groups.note.Goals as goal
 
-on_ok : {T E A B : Type 0} (result : Result T E) → (A → B) → OnOk result A → OnOk result B
-on_ok (Result.Ok x) f is = f is
-on_ok (Result.Err e) f is = tt
-
 pub returns-in-Some-clause-ok : goal.returns-in-Some-clause-ok
 returns-in-Some-clause-ok c =
-    on_ok c.note_commit.result
+    on_ok_weaker c.note_commit.result
     (λ held objects are. noted_commit objects c.args.path.now c.args.self.now c.note_commit.new.self are c.args.bytes.now c.in-Some.at (sym c.commit_instant.ensures ∙ c.in-Some.is) held)
     c.note_commit.ensures.ok
 

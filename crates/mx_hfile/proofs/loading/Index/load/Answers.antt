@@ -1,7 +1,7 @@
 use Rattle.std.proofs.Common.{◌≡◌, ◌∙◌, length, map, false, eqb, ap, arith}
 use Rattle.std.proofs.lemmas.Bool.Decides.{nat_tests}
 use Rattle.mx_hfile.specs.Seen.{seen}
-use Rattle.mx_hfile.proofs.FieldLemmas.{IsBytes}
+use Rattle.mx_lists.proofs.Codecs.{IsBytes}
 use Rattle.mx_hfile.proofs.PlaceLemmas.{index_takes}
 use Rattle.mx_hfile.proofs.LoadLemmas.{bad_footer, bad_index_len, bad_index_alone, loaded, good-total, is_index}
 use Rattle.mx_hfile.proofs.loading.Index.load.Goals as goal

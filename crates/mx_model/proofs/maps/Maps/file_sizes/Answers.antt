@@ -7,7 +7,7 @@ use Rattle.mx_model.proofs.maps.Maps.file_sizes.Goals as goal
 pub returns-in-Some : goal.returns-in-Some
 returns-in-Some c =
     let sizes = sizes_in-tree c.self.inside.partitions c.args.self.now c.self.view_is c.args.partition.now (Some c.in-Some.sizes.now) c.in-Some.ensures.value in
-    subst (λ (s : SizeMap). IfOk c.file_sizes.result (λ files. files ≡ file_sizes s)) (sym sizes) c.file_sizes.ensures
+    subst (λ (s : SizeMap). IfOk c.names_and_sizes.result (λ files. files ≡ file_sizes s)) (sym sizes) c.names_and_sizes.ensures
 
 pub returns-in-None : goal.returns-in-None
 returns-in-None c =

@@ -4,14 +4,15 @@ use Rattle.std.specs.BTreeMap.{BTreeMap}
 use Rattle.std.specs.Ordering.{nat_cmp}
 use Rattle.std.specs.Cmp.Lexicographic.{slice_cmp}
 use Rattle.std.specs.FinMap as finmap
+use Rattle.std.proofs.lemmas.Result.{on_ok_weaker, on_err_weaker}
 use Rattle.mx_merge.specs.Shown.{SizeMap}
-use Rattle.mx_model.proofs.TreeLemmas.{grown-tree, same_tree, on_ok, on_err}
+use Rattle.mx_model.proofs.TreeLemmas.{grown-tree, same_tree}
 use Rattle.mx_model.proofs.maps.Maps.insert.Goals as goal
 
 pub returns-in-Some-clause-ok : goal.returns-in-Some-clause-ok
 returns-in-Some-clause-ok c =
     let sizes = c.insert.new.self in
-    on_ok c.insert.result (λ (grown : sizes ≡ finmap.insert c.in-Some.sizes.now c.args.name c.args.size).
+    on_ok_weaker c.insert.result (λ (grown : sizes ≡ finmap.insert c.in-Some.sizes.now c.args.name c.args.size).
     grown-tree c.self.inside.partitions c.args.self.now c.self.view_is (c.get_mut.follows.lender sizes) c.args.partition c.args.name c.args.size (Some c.in-Some.sizes.now) sizes
     c.in-Some.ensures.value grown ((c.get_mut.follows.holds sizes).3 (search rules)))
     c.insert.ensures.ok
@@ -19,7 +20,7 @@ returns-in-Some-clause-ok c =
 pub returns-in-Some-clause-err : goal.returns-in-Some-clause-err
 returns-in-Some-clause-err c =
     let sizes = c.insert.new.self in
-    on_err c.insert.result (λ (unchanged : sizes ≡ c.in-Some.sizes.now).
+    on_err_weaker c.insert.result (λ (unchanged : sizes ≡ c.in-Some.sizes.now).
     same_tree c.self.inside.partitions c.args.self.now c.self.view_is (c.get_mut.follows.lender sizes) c.args.partition c.in-Some.sizes.now sizes
     c.in-Some.ensures.value unchanged (c.get_mut.follows.holds sizes).0)
     c.insert.ensures.err

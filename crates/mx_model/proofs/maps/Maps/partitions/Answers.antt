@@ -4,7 +4,7 @@ use Rattle.std.specs.FinMap as finmap
 use Rattle.std.specs.Map.{keys_of}
 use Rattle.std.proofs.lemmas.Map.Iter.{iter_end}
 use Rattle.mx_files.specs.Files.{FilesMap}
-use Rattle.mx_model.proofs.SizeLemmas.{entries-tree}
+use Rattle.mx_lists.proofs.TreeLemmas.{entries-tree}
 use Rattle.mx_model.proofs.maps.Maps.partitions.Goals as goal
 
 pub returns : goal.returns

@@ -1,5 +1,5 @@
 use Rattle.std.proofs.Common.{◌∙◌, sym, ap}
-use Rattle.mx_model.proofs.SizeLemmas.{get-tree}
+use Rattle.mx_lists.proofs.TreeLemmas.{get-tree}
 use Rattle.mx_store.specs.Objects.{Objects, at_path}
 use Rattle.mx_open.proofs.held.Held.get.Goals as goal
 

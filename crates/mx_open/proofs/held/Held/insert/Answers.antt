@@ -1,6 +1,6 @@
 use Rattle.std.proofs.Common.{◌∙◌, ap}
 use Rattle.std.specs.FinMap as finmap
-use Rattle.mx_model.proofs.SizeLemmas.{tree-insert}
+use Rattle.mx_lists.proofs.TreeLemmas.{tree-insert}
 use Rattle.mx_store.specs.Objects.{Objects}
 use Rattle.mx_open.proofs.held.Held.insert.Goals as goal
 

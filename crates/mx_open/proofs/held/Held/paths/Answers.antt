@@ -3,7 +3,7 @@ use Rattle.std.specs.BTreeMap as tree
 use Rattle.std.specs.FinMap as finmap
 use Rattle.std.specs.Map.{keys_of}
 use Rattle.std.proofs.lemmas.Map.Iter.{iter_end}
-use Rattle.mx_model.proofs.SizeLemmas.{entries-tree}
+use Rattle.mx_lists.proofs.TreeLemmas.{entries-tree}
 use Rattle.mx_store.specs.Objects.{Objects}
 use Rattle.mx_open.proofs.held.Held.paths.Goals as goal
 

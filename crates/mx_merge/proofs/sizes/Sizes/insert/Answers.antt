@@ -1,8 +1,8 @@
 use Rattle.std.proofs.Common.{◌∙◌, ap}
 use Rattle.std.specs.FinMap as finmap
 use Rattle.mx_merge.specs.Shown.{SizeMap}
-use Rattle.mx_model.proofs.SizeLemmas.{tree-insert}
-use Rattle.mx_model.proofs.sizes.Sizes.insert.Goals as goal
+use Rattle.mx_lists.proofs.TreeLemmas.{tree-insert}
+use Rattle.mx_merge.proofs.sizes.Sizes.insert.Goals as goal
 
 pub returns-clause-ok : goal.returns-clause-ok
 returns-clause-ok c =

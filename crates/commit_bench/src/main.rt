@@ -5,17 +5,15 @@
 //! of the schema. It prints the rounds and how many of them were as they should be.
 #![tactic(auto)]
 
-mod objects;
 mod table;
 
 use crate::table::committed;
+use bench_input::{bad_input, number};
 use mx_schema::Schema;
 use serde_json::Value;
 use std::alloc::Global;
 use std::io::Read;
 use std::{env, io};
-
-const MOST_BYTES: usize = 1 << 24;
 
 /// What is done with the line in each round.
 #[derive(Clone, Copy, PartialEq, Eq)]
@@ -28,10 +26,7 @@ enum Work {
 fn main(rt: HostRuntime) -> io::Result<()> {
     let alloc = rt.alloc();
     let mut words = env::args(&rt)?.skip(1);
-    let rounds = match words.next() {
-        Some(word) => word.as_str().parse::<u32>().unwrap_or(1),
-        None => 1,
-    };
+    let rounds = number(words.next());
     let work = match words.next() {
         Some(word) if word.as_str() == "copy" => Work::Copy,
         Some(word) if word.as_str() == "json" => Work::Json,
@@ -54,21 +49,14 @@ fn schema_of(alloc: Global, word: Option<String>) -> io::Result<Schema> {
     };
     match parsed {
         Ok(schema) => Ok(schema),
-        Err(_) => Err(io::Error::from(io::ErrorKind::InvalidData)),
+        Err(_) => Err(bad_input()),
     }
 }
 
-// The input without a newline at its end, up to 16 MiB.
+// The input without a newline at its end.
 fn input<R: Read>(alloc: Global, reader: &mut R) -> io::Result<Vec<u8>> {
     let mut bytes = Vec::new(alloc);
-    let mut buffer = [0u8; 4096];
-    for _ in 0..MOST_BYTES {
-        let count = reader.read(&mut buffer)?;
-        if count == 0 {
-            break;
-        }
-        bytes.extend_from_slice(&buffer[..count])?;
-    }
+    reader.read_to_end(&mut bytes)?;
     if bytes.last() == Some(&b'\n') {
         bytes.pop();
     }

@@ -1,13 +1,13 @@
 ghost use Rattle.std.specs.Prelude.{◌≡◌, ◌<◌, None};
 
-use crate::objects::Objects;
+use bench_input::bad_input;
 use mx_ask::{Reply, ask_of};
 use mx_base::Instant;
 use mx_hub::drive;
 use mx_open::init;
 use mx_recovery::open_world;
 use mx_schema::Schema;
-use mx_store::Named;
+use mx_store::{MemStore, Named, QuietStore};
 use mx_world::World;
 use std::alloc::Global;
 use std::io;
@@ -20,16 +20,19 @@ pub(crate) fn committed(
     line: &[u8],
     rounds: u32,
 ) -> io::Result<u32> {
-    let mut store = Objects::empty(alloc);
+    let mut store = QuietStore::over(MemStore::empty(alloc));
     if init(alloc, &mut store, schema).is_err() {
-        return Err(refused());
+        return Err(bad_input());
     }
-    filled::<Brand>(alloc, store, first_moment(), line, rounds)
+    let Some(now) = Instant::new(20_250_101_000_000_000) else {
+        return Err(bad_input());
+    };
+    filled::<Brand>(alloc, store, now, line, rounds)
 }
 
 fn filled<N: Named>(
     alloc: Global,
-    store: Objects,
+    store: QuietStore,
     now: Instant,
     line: &[u8],
     rounds: u32,
@@ -38,8 +41,8 @@ fn filled<N: Named>(
     requires moment { now ≡ N.moment }
     requires some { 0 < now }
 {
-    let Ok(table) = open_world::<Objects, N>(alloc, store, now) else {
-        return Err(refused());
+    let Ok(table) = open_world::<QuietStore, N>(alloc, store, now) else {
+        return Err(bad_input());
     };
     let mut table = table;
     let mut done = 0u32;
@@ -53,7 +56,7 @@ fn filled<N: Named>(
 
 fn commits<N: Named>(
     alloc: Global,
-    table: &mut World<Objects, N>,
+    table: &mut World<QuietStore, N>,
     number: u32,
     line: &[u8],
 ) -> bool {
@@ -64,17 +67,4 @@ fn commits<N: Named>(
         &drive(alloc, table, u64::from(number), &ask).reply,
         Reply::Committed { .. }
     )
-}
-
-fn first_moment() -> Instant
-    ensures { 0 < result }
-{
-    match Instant::new(20_250_101_000_000_000) {
-        Some(at) => at,
-        None => unreachable!(),
-    }
-}
-
-fn refused() -> io::Error {
-    io::Error::from(io::ErrorKind::InvalidData)
 }

@@ -1,8 +1,7 @@
 -- What a commit adds to the index is spelled by payloads, and its log reads back.
-use Rattle.std.proofs.Common.{◌≡◌, inl, inr, ℕ, ◌^◌, ◌<◌, ◌≤◌, arith, Bool, true, false, cond, List, [], ◌∷◌, ◌++◌, map, length, Option, Some, None, Result, Ok, Err, refl, sym, ◌∙◌, ap, subst}
-use Rattle.std.specs.Prelude.{◌==◌, IsOk, bytes_eq, filter, filter_map, option_map, option_to_list}
+use Rattle.std.proofs.Common.{◌≡◌, inl, inr, ℕ, ◌^◌, ◌<◌, ◌≤◌, Bool, true, false, cond, List, [], ◌∷◌, ◌++◌, map, length, Option, Some, None, Result, Ok, Err, refl, sym, ◌∙◌, ap, subst}
+use Rattle.std.specs.Prelude.{IsOk, bytes_eq, filter, filter_map, option_map, option_to_list}
 use Rattle.std.specs.List.{cons_option}
-use Rattle.std.proofs.lemmas.Bool.Decides.{nat_tests}
 use Rattle.std.proofs.lemmas.Slice.Eq.{bytes_eq-Decides}
 use Rattle.mx_base.specs.declared.entry.Entry.{Entry}
 use Rattle.mx_base.specs.declared.entry.FileAt.{FileAt}
@@ -10,8 +9,9 @@ use Rattle.mx_base.specs.declared.entry.ShardEntries.{ShardEntries}
 use Rattle.mx_files.specs.Delta.{IsDelta, AreShards, delta_on}
 use Rattle.mx_files.proofs.DeltaLemmas.{delta-nothing}
 use Rattle.mx_folder.specs.Reading.{SpellPayloads}
-use Rattle.mx_folder.specs.Slices.{log_of, entries_of_instant}
+use Rattle.mx_folder.specs.Slices.{log_of}
 use Rattle.mx_folder.proofs.FoldLemmas.{Among}
+use Rattle.mx_folder.proofs.SliceLemmas.{log_of-read}
 use Rattle.mx_hfile.specs.Encoding.{AreEntries, encoding as file_encoding}
 use Rattle.mx_log.specs.Encoding.{log_encoding}
 use Rattle.mx_log.proofs.LogLemmas.{log_again}
@@ -81,7 +81,4 @@ one_shard news (r ∷ (q ∷ shards)) front s are is = absurd are
 -- ---- the log reads back
 
 pub log_reads : (t : ℕ) (es : List Entry) → 0 < t → t < 10 ^ 17 → AreEntries es → length (file_encoding es) ≤ 268_435_456 → log_of t (log_encoding t es) ≡ Some es
-unfolding log_of
-log_reads t es meant small are room =
-    let own : (t == t) ≡ true = grind (arith, nat_tests) in
-    ap (entries_of_instant t) (log_again t es (record { some = meant; small = small }) are room) ∙ ap (λ (b : Bool). cond b (Some es) None) own
+log_reads t es meant small are room = log_of-read t t (log_encoding t es) es (log_again t es (record { some = meant; small = small }) are room) refl

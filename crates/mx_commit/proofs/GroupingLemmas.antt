@@ -8,9 +8,11 @@ use Rattle.std.specs.List.Sorted.{IsStrictlySortedBy}
 use Rattle.std.specs.Ordering.{nat_cmp, is_eq, is_lt}
 use Rattle.std.specs.declared.cmp.Ordering.{Ordering}
 use Rattle.std.specs.Str.{bytes_eq}
+use Rattle.std.proofs.lemmas.Bool.{and_parts, and_from}
 use Rattle.std.proofs.lemmas.List.Elements.{All-nil, All-cons, All-head, All-tail, All-append, All-map, All-weaker, All-contains, All-contains_itself, All-from_recursion, recursion_from_All, Contains-append_left, Contains-append_right}
-use Rattle.std.proofs.lemmas.Map.Text.{is_eq-slice_cmp}
 use Rattle.std.proofs.lemmas.Slice.Eq.{bytes_eq-Decides}
+use Rattle.mx_store.proofs.Paths.{same_path, path_same}
+use Rattle.mx_folder.proofs.ElementLemmas.{among_here, among_later, among_cases, among_none}
 use Rattle.mx_meta.specs.CommitText.{stat_below}
 use Rattle.mx_meta.specs.Rising.{is_rising, rises_from}
 use Rattle.mx_meta.specs.declared.commit_meta.CommitMeta.{CommitMeta}
@@ -19,51 +21,45 @@ use Rattle.mx_meta.specs.declared.commit_meta.WriteStat.{WriteStat}
 use Rattle.mx_commit.specs.declared.written.Written.{Written}
 use Rattle.mx_commit.specs.Grouping.{is_under, has_id, is_of_group, group_stats, partition_stats}
 use Rattle.mx_commit.specs.Written.{IsOtherGroup, AreOfOtherGroups, HasEntry, IsMetaOf}
-use Rattle.mx_commit.proofs.EntryLemmas.{here, there, never, cases, both, left_of, right_of, found, find_it}
+use Rattle.mx_commit.proofs.EntryLemmas.{found, find_it}
 
--- ---- equal texts
-
-equal_text : (x y : List ℕ) → is_eq (slice_cmp nat_cmp x y) ≡ true → x ≡ y
-equal_text x y is = (bytes_eq-Decides x y).0 (sym (is_eq-slice_cmp x y) ∙ is)
-
-text_equal : (x y : List ℕ) → x ≡ y → is_eq (slice_cmp nat_cmp x y) ≡ true
-text_equal x y same = is_eq-slice_cmp x y ∙ (bytes_eq-Decides x y).1 same
+-- ---- elements of sets of texts
 
 among_keys : (s : BTreeSet (List ℕ)) (q : List ℕ) → contains (slice_cmp nat_cmp) s q ≡ true → Contains s.keys q
-among_keys s q has = let key = found (λ (k : List ℕ). is_eq (slice_cmp nat_cmp q k)) s.keys has in subst (Contains s.keys) (sym (equal_text q key.0 key.2)) key.1
+among_keys s q has = let key = found (λ (k : List ℕ). is_eq (slice_cmp nat_cmp q k)) s.keys has in subst (Contains s.keys) (sym (same_path q key.0 key.2)) key.1
 
 keys_have : (s : BTreeSet (List ℕ)) (q : List ℕ) → Contains s.keys q → contains (slice_cmp nat_cmp) s q ≡ true
-keys_have s q among = find_it (λ (k : List ℕ). is_eq (slice_cmp nat_cmp q k)) s.keys q among (text_equal q q refl)
+keys_have s q among = find_it (λ (k : List ℕ). is_eq (slice_cmp nat_cmp q k)) s.keys q among (path_same q)
 
 -- ---- the entries of one group
 
 group_of : (partition id : List ℕ) (w : Written) → is_of_group partition id w ≡ true → (w.partition ≡ partition) × (w.stat.file_id ≡ id)
 group_of partition id w is = (
-  (bytes_eq-Decides w.partition partition).0 (left_of (bytes_eq w.partition partition) (bytes_eq w.stat.file_id id) is),
-  (bytes_eq-Decides w.stat.file_id id).0 (right_of (bytes_eq w.partition partition) (bytes_eq w.stat.file_id id) is),
+  (bytes_eq-Decides w.partition partition).0 (and_parts (bytes_eq w.partition partition) (bytes_eq w.stat.file_id id) is).0,
+  (bytes_eq-Decides w.stat.file_id id).0 (and_parts (bytes_eq w.partition partition) (bytes_eq w.stat.file_id id) is).1,
 )
 
 of_own_group : (w : Written) → is_of_group w.partition w.stat.file_id w ≡ true
-of_own_group w = both (bytes_eq w.partition w.partition) (bytes_eq w.stat.file_id w.stat.file_id) ((bytes_eq-Decides w.partition w.partition).1 refl) ((bytes_eq-Decides w.stat.file_id w.stat.file_id).1 refl)
+of_own_group w = and_from (bytes_eq w.partition w.partition) (bytes_eq w.stat.file_id w.stat.file_id) ((bytes_eq-Decides w.partition w.partition).1 refl) ((bytes_eq-Decides w.stat.file_id w.stat.file_id).1 refl)
 
 abbrev stat_of : Written → WriteStat
 stat_of w = w.stat
 
 group_each : (P : WriteStat → Type 0) (partition id : List ℕ) (ws : List Written) → ((w : Written) → Contains ws w → w.partition ≡ partition → w.stat.file_id ≡ id → P w.stat) → All P (group_stats ws partition id)
 group_each P partition id [] each = All-nil P
-group_each P partition id (w ∷ ws) each = at (is_of_group partition id w) refl (group_each P partition id ws (λ v among. each v (there w v ws among)))
+group_each P partition id (w ∷ ws) each = at (is_of_group partition id w) refl (group_each P partition id ws (λ v among. each v (among_later v w ws among)))
   where
     at : (b : Bool) → is_of_group partition id w ≡ b → All P (group_stats ws partition id) → All P (map (λ (w : Written). w.stat) (cond b (w ∷ filter (is_of_group partition id) ws) (filter (is_of_group partition id) ws)))
-    at true is later = All-cons P w.stat (group_stats ws partition id) (each w (here w ws) (group_of partition id w is).0 (group_of partition id w is).1) later
+    at true is later = All-cons P w.stat (group_stats ws partition id) (each w (among_here w ws) (group_of partition id w is).0 (group_of partition id w is).1) later
     at false is later = later
 
 group_has : (partition id : List ℕ) (ws : List Written) (w : Written) → Contains ws w → is_of_group partition id w ≡ true → Contains (group_stats ws partition id) w.stat
-group_has partition id [] w among is = absurd (never w among)
-group_has partition id (v ∷ ws) w among is = at (is_of_group partition id v) refl (cases v w ws among) (λ later. group_has partition id ws w later is)
+group_has partition id [] w among is = absurd (among_none w among)
+group_has partition id (v ∷ ws) w among is = at (is_of_group partition id v) refl (among_cases w v ws among) (λ later. group_has partition id ws w later is)
   where
     at : (b : Bool) → is_of_group partition id v ≡ b → (v ≡ w) ⊎ Contains ws w → (Contains ws w → Contains (group_stats ws partition id) w.stat) → Contains (map (λ (w : Written). w.stat) (cond b (v ∷ filter (is_of_group partition id) ws) (filter (is_of_group partition id) ws))) w.stat
-    at true now (inl same) further = subst (λ (u : Written). Contains (v.stat ∷ group_stats ws partition id) u.stat) same (here v.stat (group_stats ws partition id))
-    at true now (inr later) further = there v.stat w.stat (group_stats ws partition id) (further later)
+    at true now (inl same) further = subst (λ (u : Written). Contains (v.stat ∷ group_stats ws partition id) u.stat) same (among_here v.stat (group_stats ws partition id))
+    at true now (inr later) further = among_later w.stat v.stat (group_stats ws partition id) (further later)
     at false now (inl same) further = absurd (cc (sym now ∙ ap (is_of_group partition id) same ∙ is))
     at false now (inr later) further = further later
 
@@ -86,7 +82,7 @@ by_id x y = slice_cmp nat_cmp x.file_id y.file_id
 rises : (x : WriteStat) (xs : List WriteStat) → IsStrictlySortedBy by_id (x ∷ xs) → rises_from stat_below x xs ≡ true
 unfolding IsStrictlySortedBy
 rises x [] sorted = refl
-rises x (y ∷ xs) sorted = both (stat_below x y) (rises_from stat_below y xs) (ap is_lt sorted.0.0) (rises y xs sorted.1)
+rises x (y ∷ xs) sorted = and_from (stat_below x y) (rises_from stat_below y xs) (ap is_lt sorted.0.0) (rises y xs sorted.1)
 
 rising : (xs : List WriteStat) → IsStrictlySortedBy by_id xs → is_rising stat_below xs ≡ true
 rising [] sorted = refl
@@ -116,11 +112,11 @@ group_sorted partition id (w ∷ ws) apart = at (is_of_group partition id w) ref
 module _ (written : List Written) (partition : List ℕ) where
   stats_each : (P : WriteStat → Type 0) (ids : List (List ℕ)) → ((id : List ℕ) → Contains ids id → All P (group_stats written partition id)) → All P (flat_map (group_stats written partition) ids)
   stats_each P [] each = All-nil P
-  stats_each P (id ∷ ids) each = All-append P (group_stats written partition id) (flat_map (group_stats written partition) ids) (each id (here id ids)) (stats_each P ids (λ other among. each other (there id other ids among)))
+  stats_each P (id ∷ ids) each = All-append P (group_stats written partition id) (flat_map (group_stats written partition) ids) (each id (among_here id ids)) (stats_each P ids (λ other among. each other (among_later other id ids among)))
 
   stats_have : (ids : List (List ℕ)) (id : List ℕ) (stat : WriteStat) → Contains ids id → Contains (group_stats written partition id) stat → Contains (flat_map (group_stats written partition) ids) stat
-  stats_have [] id stat among has = absurd (never id among)
-  stats_have (first ∷ ids) id stat among has = at (cases first id ids among) (λ later. stats_have ids id stat later has)
+  stats_have [] id stat among has = absurd (among_none id among)
+  stats_have (first ∷ ids) id stat among has = at (among_cases id first ids among) (λ later. stats_have ids id stat later has)
     where
       at : (first ≡ id) ⊎ Contains ids id → (Contains ids id → Contains (flat_map (group_stats written partition) ids) stat) → Contains (group_stats written partition first ++ flat_map (group_stats written partition) ids) stat
       at (inl same) further = Contains-append_left (group_stats written partition first) (flat_map (group_stats written partition) ids) stat (subst (λ (i : List ℕ). Contains (group_stats written partition i) stat) (sym same) has)
@@ -142,22 +138,22 @@ map_names written ids [] = refl
 map_names written ids (name ∷ names) = ap (λ (ns : List (List ℕ)). name ∷ ns) (map_names written ids names)
 
 in_map : {X Y : Type 0} (f : X → Y) (xs : List X) (x : X) → Contains xs x → Contains (map f xs) (f x)
-in_map f [] x among = absurd (never x among)
-in_map {X} {Y} f (y ∷ xs) x among = at (cases y x xs among) (in_map f xs x)
+in_map f [] x among = absurd (among_none x among)
+in_map {X} {Y} f (y ∷ xs) x among = at (among_cases x y xs among) (in_map f xs x)
   where
     at : (y ≡ x) ⊎ Contains xs x → (Contains xs x → Contains (map f xs) (f x)) → Contains (f y ∷ map f xs) (f x)
-    at (inl same) further = subst (λ (z : X). Contains (f y ∷ map f xs) (f z)) same (here (f y) (map f xs))
-    at (inr later) further = there (f y) (f x) (map f xs) (further later)
+    at (inl same) further = subst (λ (z : X). Contains (f y ∷ map f xs) (f z)) same (among_here (f y) (map f xs))
+    at (inr later) further = among_later (f x) (f y) (map f xs) (further later)
 
 abbrev entry : List ℕ → WriteStat → Written
 entry partition stat = record { partition = partition; stat = stat }
 
 module _ (written : List Written) (names ids : BTreeSet (List ℕ)) (apart : AreOfOtherGroups written) (named : (q : List ℕ) → contains (slice_cmp nat_cmp) names q ≡ list_any (is_under q) written) (numbered : (q : List ℕ) → contains (slice_cmp nat_cmp) ids q ≡ list_any (has_id q) written) where
   has_name : (w : Written) → Contains written w → Contains names.keys w.partition
-  has_name w among = among_keys names w.partition (named w.partition ∙ find_it (is_under w.partition) written w among (text_equal w.partition w.partition refl))
+  has_name w among = among_keys names w.partition (named w.partition ∙ find_it (is_under w.partition) written w among (path_same w.partition))
 
   has_number : (w : Written) → Contains written w → Contains ids.keys w.stat.file_id
-  has_number w among = among_keys ids w.stat.file_id (numbered w.stat.file_id ∙ find_it (has_id w.stat.file_id) written w among (text_equal w.stat.file_id w.stat.file_id refl))
+  has_number w among = among_keys ids w.stat.file_id (numbered w.stat.file_id ∙ find_it (has_id w.stat.file_id) written w among (path_same w.stat.file_id))
 
   has_stat : (w : Written) → Contains written w → Contains (flat_map (group_stats written w.partition) ids.keys) w.stat
   has_stat w among = stats_have written w.partition ids.keys w.stat.file_id w.stat (has_number w among) (group_has w.partition w.stat.file_id written w among (of_own_group w))
@@ -165,8 +161,8 @@ module _ (written : List Written) (names ids : BTreeSet (List ℕ)) (apart : Are
   name_filled : (name : List ℕ) → Contains names.keys name → flat_map (group_stats written name) ids.keys ≢ []
   name_filled name among none =
       let one = found (is_under name) written (sym (named name) ∙ keys_have names name among) in
-      let same : one.0.partition ≡ name = equal_text one.0.partition name one.2 in
-      never one.0.stat (subst (λ (xs : List WriteStat). Contains xs one.0.stat) none (subst (λ (q : List ℕ). Contains (flat_map (group_stats written q) ids.keys) one.0.stat) same (has_stat one.0 one.1)))
+      let same : one.0.partition ≡ name = same_path one.0.partition name one.2 in
+      among_none one.0.stat (subst (λ (xs : List WriteStat). Contains xs one.0.stat) none (subst (λ (q : List ℕ). Contains (flat_map (group_stats written q) ids.keys) one.0.stat) same (has_stat one.0 one.1)))
 
   abbrev meta : CommitMeta
   meta = record { partitions = map (partition_stats written ids.keys) names.keys }

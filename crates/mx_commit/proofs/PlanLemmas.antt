@@ -1,15 +1,15 @@
 -- What a commit writes reads back.
-use Rattle.std.proofs.Common.{◌≡◌, ◌∙◌, sym, ap, ℕ, ◌<◌, ◌^◌, true, false, List, [], ◌∷◌, ◌++◌, ◌+◌, take, get_or, length, ap₂, append_assoc, Option, Some, None, refl}
-use Rattle.std.specs.Prelude.{All, Contains, nat_lt, option_map, option_and_then}
+use Rattle.std.proofs.Common.{◌≡◌, ◌∙◌, sym, ap, ℕ, ◌<◌, ◌^◌, true, false, List, [], ◌∷◌, ◌++◌, ◌+◌, ap₂, append_assoc, Option, Some, None, refl}
+use Rattle.std.specs.Prelude.{All, Contains, option_map, option_and_then}
 use Rattle.std.specs.Option.{option_map_or, SomeIff}
-use Rattle.std.proofs.lemmas.Bool.Decides.{Decides-ltb}
-use Rattle.std.proofs.lemmas.List.{map-append, take_more}
+use Rattle.std.proofs.lemmas.List.{map-append}
 use Rattle.std.proofs.lemmas.List.Elements.{All-nil, All-cons, All-head, All-tail, All-weaker, All-contains, All-contains_itself}
 use Rattle.mx_commit.specs.declared.new_file.NewFile.{NewFile}
-use Rattle.mx_base.specs.Objects.{IsObjectName, is_instant, object_path}
+use Rattle.mx_base.specs.Objects.{IsObjectName, object_path}
 use Rattle.mx_base.proofs.ObjectLemmas.{object_path-injective}
 use Rattle.mx_base.specs.declared.object_name.ObjectName.{ObjectName}
 use Rattle.mx_folder.specs.Named.{log_name}
+use Rattle.mx_folder.proofs.NamedLemmas.{is_commit_name}
 use Rattle.mx_meta.specs.CommitText.{HasSmallCounts, IsWellFormed}
 use Rattle.mx_meta.specs.Places.{place_in, place_of, place_below, stands_in_order}
 use Rattle.mx_meta.specs.Rising.{is_rising}
@@ -23,7 +23,6 @@ use Rattle.mx_store.specs.declared.change.Change.{Change}
 use Rattle.mx_store.specs.declared.change.Change.TheVariants.{Create}
 use Rattle.mx_commit.specs.Changes.{logs_written, data_changes}
 use Rattle.mx_commit.specs.Written.{IsOtherGroup, AreOfOtherGroups, IsSameGroup, AreApartFiles, new_group, AreWritten, IsMetaOf, data_file}
-use Rattle.mx_commit.proofs.EntryLemmas.{both}
 
 -- ---- the data files
 
@@ -37,7 +36,7 @@ data_more old before after files file t change so_far made pushed =
 -- ---- the log
 
 pub named : (t : ℕ) → 0 < t → t < 10 ^ 17 → IsObjectName (log_name t)
-named t meant small = both (nat_lt 0 t) (is_instant t) ((Decides-ltb 0 t).1 meant) ((Decides-ltb t (10 ^ 17)).1 small)
+named t meant small = is_commit_name t meant small
 
 -- one log stands by partition and shard
 one_log : (t : ℕ) → 0 < t → t < 10 ^ 17 → stands_in_order ShardLog (object_path (log_name t) ∷ []) ≡ true

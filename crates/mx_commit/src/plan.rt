@@ -1,7 +1,6 @@
 ghost use Rattle.std.specs.Prelude.{◌≡◌, ◌<◌, ◌++◌, ◌∷◌, [], All, IfOk, IsTrue, OnOk, Some, codes, map};
 ghost use Rattle.serde_json.specs.Written.{compact_text};
 ghost use Rattle.mx_base.specs.Objects.{object_path};
-ghost use Rattle.mx_folder.specs.Named as named;
 ghost use Rattle.mx_folder.specs.Slices.{log_of};
 ghost use Rattle.mx_hfile.specs.Encoding.{AreEntries};
 ghost use Rattle.mx_log.specs.Encoding.{log_encoding};
@@ -15,9 +14,8 @@ ghost use Rattle.mx_commit.specs.Written.{AreApartFiles, AreWritten, IsNamedFile
 use crate::adding::{added_entries, log_bytes};
 use crate::meta::meta_of;
 use crate::{NewFile, Written};
-use mx_base::{
-    ActionKind, ActionState, Entry, Instant, MetadataActionKind, ObjectName, Part, Path,
-};
+use mx_base::{ActionState, Entry, Instant, ObjectName, Path};
+use mx_folder::{commit_name, delta_name, log_name};
 use mx_lists::{Bytes, Listed};
 use mx_meta::{CommitMeta, DeltaMeta, PathList};
 use mx_store::Change;
@@ -76,11 +74,14 @@ fn push_files(
     ensures reads { OnOk result (path_list_of (compact_text (path_list_data (files_planned files at))) ≡ Some (files_planned files at)) }
     ensures names { OnOk result (All IsNamedFile files) }
 {
-    push(changes, mark(alloc, timeline(at, ActionState::Requested))?)?;
+    push(
+        changes,
+        mark(alloc, commit_name(at, ActionState::Requested))?,
+    )?;
     let planned = planned_text(alloc, at, files.as_slice())?;
     push(
         changes,
-        create(alloc, timeline(at, ActionState::Inflight), planned)?,
+        create(alloc, commit_name(at, ActionState::Inflight), planned)?,
     )?;
     push_data(alloc, changes, at, files.into_vec())
 }
@@ -113,11 +114,11 @@ fn push_logs(
     ensures added { OnOk result (log_of at (log_encoding at entries.now) ≡ Some entries.now) }
     ensures logs { OnOk result (delta_meta_of (compact_text (delta_meta_data (logs_written files.now at))) ≡ Some (logs_written files.now at)) }
 {
-    push(changes, mark(alloc, delta(at, false))?)?;
+    push(changes, mark(alloc, delta_name(at, false))?)?;
     let log = log_bytes(alloc, at, entries)?;
     push_added(alloc, changes, at, files, entries, log)?;
     let logs = logs_text(alloc, at, files)?;
-    push(changes, create(alloc, delta(at, true), logs)?)
+    push(changes, create(alloc, delta_name(at, true), logs)?)
 }
 
 // A commit without files has no log.
@@ -134,7 +135,7 @@ fn push_added(
 {
     match files {
         [] => Ok(()),
-        [_, ..] => push(changes, create(alloc, files_log(at), log)?),
+        [_, ..] => push(changes, create(alloc, log_name(at), log)?),
     }
 }
 
@@ -150,7 +151,7 @@ fn push_completion(
     let text = meta_text(alloc, meta)?;
     push(
         changes,
-        create(alloc, timeline(at, ActionState::Completed), text)?,
+        create(alloc, commit_name(at, ActionState::Completed), text)?,
     )
 }
 
@@ -224,7 +225,7 @@ fn log_paths(alloc: Global, at: Instant, files: &[NewFile]) -> Result<Listed<Pat
     match files {
         [] => Ok(Listed::new(alloc)),
         [_, ..] => {
-            let log = files_log(at).path(alloc)?;
+            let log = log_name(at).path(alloc)?;
             Ok(Listed::from_vec(vec![in alloc; log]?))
         }
     }
@@ -250,35 +251,4 @@ fn data_change(alloc: Global, at: Instant, file: NewFile) -> Result<Change, Allo
         path,
         bytes: file.bytes,
     })
-}
-
-fn timeline(at: Instant, state: ActionState) -> ObjectName
-    ensures { result ≡ ObjectName.Timeline at ActionKind.Commit state }
-{
-    ObjectName::Timeline {
-        at,
-        kind: ActionKind::Commit,
-        state,
-    }
-}
-
-// The object that names the logs of a commit, or the mark before them.
-fn delta(at: Instant, completed: bool) -> ObjectName
-    ensures { result ≡ ObjectName.Metadata at MetadataActionKind.DeltaCommit completed }
-{
-    ObjectName::Metadata {
-        at,
-        kind: MetadataActionKind::DeltaCommit,
-        completed,
-    }
-}
-
-fn files_log(at: Instant) -> ObjectName
-    ensures { result ≡ named.log_name at }
-{
-    ObjectName::Log {
-        part: Part::Files,
-        shard: 0,
-        at,
-    }
 }

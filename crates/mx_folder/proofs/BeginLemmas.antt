@@ -37,14 +37,15 @@ use Rattle.mx_store.specs.Objects.{Objects, at_path}
 use Rattle.mx_store.proofs.Paths.{at_nothing, at_same, at_other, cases_path}
 use Rattle.mx_folder.specs.Named.{object_at, commit_name, first_base, first_bases}
 use Rattle.mx_folder.specs.Actions.{IsCompleted, action_at, actions_upto}
-use Rattle.mx_folder.specs.Slices.{entries_read, base_of, base_entries, logged_entries}
+use Rattle.mx_folder.specs.Slices.{base_of, base_entries, logged_entries}
 use Rattle.mx_folder.specs.Begin.{first_mark, first_meta, first_config}
 use Rattle.mx_folder.specs.Reading.{IsEmptyObject, HasBase, named_bases, Reads, ReadsAsBase}
 use Rattle.mx_folder.specs.Files.{Lists}
 use Rattle.mx_folder.specs.Folder.{IsObjectAt, IsNeeded, IsOpenable, IsValidTable}
 use Rattle.mx_folder.proofs.ListedLemmas.{listed_completed}
-use Rattle.mx_folder.proofs.NamedLemmas.{object_at-is, object_at-stands, is_some_same, other_path}
+use Rattle.mx_folder.proofs.NamedLemmas.{object_at-is, object_at-stands, is_some_same, some_value, other_path}
 use Rattle.mx_folder.proofs.ActionLemmas.{action_at-none}
+use Rattle.mx_folder.proofs.SliceLemmas.{base_of-read}
 
 pub empty_object : IsEmptyObject (codes "{}")
 unfolding object_of json_of serde_json_on_literals is_utf8 chars
@@ -62,8 +63,7 @@ empty_file : file_in (encoding []) ≡ Ok []
 empty_file = file_again [] (record { rising = tt; each = tt }) empty_length
 
 pub empty_base : base_of (encoding []) ≡ Some []
-unfolding base_of
-empty_base = ap entries_read empty_file
+empty_base = base_of-read (encoding []) [] empty_file
 
 pub empty_base_reads : ReadsAsBase (encoding [])
 empty_base_reads = ([], empty_base, tt)
@@ -151,10 +151,6 @@ module _ (schema : List Column) where
       ∙ at_same mark_objects (object_path first_base) (encoding [])
 
   -- ---- no commit is completed
-
-  some_value : (x : Option (List ℕ)) → IsSome x → (bytes : List ℕ) × (x ≡ Some bytes)
-  some_value None stands = absurd (cc stands)
-  some_value (Some bytes) stands = (bytes, refl)
 
   pub none_completed : (at : ℕ) → IsCompleted o at → ⊥
   none_completed at done =

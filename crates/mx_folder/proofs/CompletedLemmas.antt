@@ -1,5 +1,5 @@
 -- The instants of completed commits, in their order.
-use Rattle.std.proofs.Common.{◌≡◌, ◌≢◌, ◌⊎◌, inl, inr, ⊎_elim, ℕ, zero, suc, ◌≤◌, ◌<◌, arith, Bool, true, false, cond, List, [], ◌∷◌, ◌++◌, Option, Some, None, IsSome, is_some, refl, sym, ◌∙◌, ap, subst}
+use Rattle.std.proofs.Common.{◌≡◌, ◌≢◌, ⊎_elim, ℕ, zero, suc, ◌≤◌, ◌<◌, arith, Bool, true, false, cond, List, [], ◌∷◌, ◌++◌, Option, Some, None, IsSome, is_some, refl, sym, ◌∙◌, ap, subst}
 use Rattle.std.specs.Prelude.{All, Contains, filter, nat_le, option_to_list}
 use Rattle.std.specs.List.{flat_map}
 use Rattle.std.specs.List.Sorted.{IsStrictlySortedBy}
@@ -17,6 +17,7 @@ use Rattle.mx_folder.specs.Actions.{IsCompleted, action_at, actions_upto}
 use Rattle.mx_folder.specs.Slices.{entries_at, logged_entries}
 use Rattle.mx_folder.specs.Completed.{completed_upto}
 use Rattle.mx_folder.proofs.ActionLemmas.{completed_action}
+use Rattle.mx_folder.proofs.ElementLemmas.{among_here, among_later, among_cases}
 use Rattle.mx_folder.proofs.NamedLemmas.{object_at-stands}
 
 -- ---- lists of instants
@@ -37,17 +38,7 @@ none_upto : (a : ℕ) (ks : List ℕ) → All (λ t. a < t) ks → upto a ks ≡
 none_upto a [] above = refl
 none_upto a (k ∷ ks) above = ap (λ (b : Bool). cond b (k ∷ upto a ks) (upto a ks)) (le_no k a (All-head (λ t. a < t) k ks above)) ∙ none_upto a ks (All-tail (λ t. a < t) k ks above)
 
-among_here : (k : ℕ) (ks : List ℕ) → Contains (k ∷ ks) k
-among_here k ks = (0, omega arith, refl)
-
-among_later : (k q : ℕ) (ks : List ℕ) → Contains ks q → Contains (k ∷ ks) q
-among_later k q ks c = (suc c.0, omega (arith, c.1), c.2)
-
-among_either : (k q : ℕ) (ks : List ℕ) → Contains (k ∷ ks) q → (k ≡ q) ⊎ Contains ks q
-among_either k q ks (zero, within, is) = inl is
-among_either k q ks (suc i, within, is) = inr (i, omega (arith, within), is)
-
-head_below : (k : ℕ) (ks : List ℕ) → IsStrictlySortedBy nat_cmp (k ∷ ks) → All (λ t. k < t) ks
+pub head_below : (k : ℕ) (ks : List ℕ) → IsStrictlySortedBy nat_cmp (k ∷ ks) → All (λ t. k < t) ks
 head_below k ks sorted = λ i d within. below_from_sorted (k ∷ ks) 0 (suc i) d sorted (omega arith) (omega (arith, within))
 
 below_those : (k : ℕ) (ks : List ℕ) → IsStrictlySortedBy nat_cmp (k ∷ ks) → (q : ℕ) → Contains ks q → k < q
@@ -58,12 +49,12 @@ upto_not : (a : ℕ) (ks : List ℕ) → (Contains ks (suc a) → ⊥) → upto 
 upto_not a [] never = refl
 upto_not a (k ∷ ks) never =
     ap (λ (b : Bool). cond b (k ∷ upto (suc a) ks) (upto (suc a) ks)) (le_next k a (λ same. never (subst (Contains (k ∷ ks)) same (among_here k ks))))
-    ∙ ap (λ (l : List ℕ). cond (nat_le k a) (k ∷ l) l) (upto_not a ks (λ there. never (among_later k (suc a) ks there)))
+    ∙ ap (λ (l : List ℕ). cond (nat_le k a) (k ∷ l) l) (upto_not a ks (λ there. never (among_later (suc a) k ks there)))
 
 -- one that is comes last
 upto_has : (a : ℕ) (ks : List ℕ) → IsStrictlySortedBy nat_cmp ks → Contains ks (suc a) → upto (suc a) ks ≡ upto a ks ++ suc a ∷ []
 upto_has a [] sorted has = absurd (omega (arith, has.1))
-upto_has a (k ∷ ks) sorted has = ⊎_elim here (λ (there : Contains ks (suc a)). later there (upto_has a ks (sorted_tail nat_cmp k ks sorted) there)) (among_either k (suc a) ks has)
+upto_has a (k ∷ ks) sorted has = ⊎_elim here (λ (there : Contains ks (suc a)). later there (upto_has a ks (sorted_tail nat_cmp k ks sorted) there)) (among_cases (suc a) k ks has)
   where
     here : k ≡ suc a → upto (suc a) (k ∷ ks) ≡ upto a (k ∷ ks) ++ suc a ∷ []
     here same =
@@ -89,7 +80,7 @@ module _ (o : Objects) (ks : List ℕ) (sorted : IsStrictlySortedBy nat_cmp ks) 
 
   zero_upto : (xs : List ℕ) → (Contains xs 0 → ⊥) → upto 0 xs ≡ []
   zero_upto [] never = refl
-  zero_upto (x ∷ xs) never = ap (λ (b : Bool). cond b (x ∷ upto 0 xs) (upto 0 xs)) (le_no x 0 (positive x (λ same. never (subst (Contains (x ∷ xs)) same (among_here x xs))))) ∙ zero_upto xs (λ there. never (among_later x 0 xs there))
+  zero_upto (x ∷ xs) never = ap (λ (b : Bool). cond b (x ∷ upto 0 xs) (upto 0 xs)) (le_no x 0 (positive x (λ same. never (subst (Contains (x ∷ xs)) same (among_here x xs))))) ∙ zero_upto xs (λ there. never (among_later 0 x xs there))
     where
       positive : (n : ℕ) → n ≢ 0 → 0 < n
       positive zero other = absurd (other refl)

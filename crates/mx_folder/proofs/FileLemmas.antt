@@ -4,23 +4,12 @@ use Rattle.std.specs.Prelude.{fold, unwrap_or}
 use Rattle.std.specs.FinMap as finmap
 use Rattle.std.specs.FinMap.{FinMap}
 use Rattle.std.specs.Ordering.{nat_cmp, eq_by_cmp}
-use Rattle.std.specs.Cmp.Lexicographic.{slice_cmp, nat_list_cmp_total, texts_ties}
-use Rattle.std.proofs.lemmas.Slice.Eq.{bytes_eq-Decides}
+use Rattle.std.specs.Cmp.Lexicographic.{slice_cmp, nat_list_cmp_total}
 use Rattle.mx_base.specs.declared.entry.FileAt.{FileAt}
 use Rattle.mx_files.specs.Files.{FilesMap, name_of, sizes_in, with_file}
 use Rattle.mx_merge.specs.Shown.{SizeMap}
-use Rattle.mx_store.proofs.Paths.{cases_path}
+use Rattle.mx_store.proofs.Paths.{cases_path, same_path, path_same, path_other}
 use Rattle.mx_folder.proofs.FoldLemmas.{Among, AreApart, fold_same}
-
-same_text : (a b : List ℕ) → eq_by_cmp (slice_cmp nat_cmp) a b ≡ true → a ≡ b
-same_text a b is = (bytes_eq-Decides a b).0 (texts_ties a b ∙ is)
-
-tied : (a : List ℕ) → eq_by_cmp (slice_cmp nat_cmp) a a ≡ true
-tied a = sym (texts_ties a a) ∙ (bytes_eq-Decides a a).1 refl
-
-untied : (a b : List ℕ) → a ≢ b → (x : Bool) → eq_by_cmp (slice_cmp nat_cmp) a b ≡ x → eq_by_cmp (slice_cmp nat_cmp) a b ≡ false
-untied a b other true is = absurd (other (same_text a b is))
-untied a b other false is = is
 
 -- ---- two entries of a map
 
@@ -38,7 +27,7 @@ module _ {V : Type 0} (m : FinMap (slice_cmp nat_cmp) V) where
 
   module _ (k l : List ℕ) (v w : V) (other : k ≢ l) where
     in_turn : (q : List ℕ) (a b : Bool) → eq_by_cmp (slice_cmp nat_cmp) q l ≡ a → eq_by_cmp (slice_cmp nat_cmp) q k ≡ b → (rest : Option V) → cond a (Some w) (cond b (Some v) rest) ≡ cond b (Some v) (cond a (Some w) rest)
-    in_turn q true true first second rest = absurd (other (sym (same_text q k second) ∙ same_text q l first))
+    in_turn q true true first second rest = absurd (other (sym (same_path q k second) ∙ same_path q l first))
     in_turn q true false first second rest = refl
     in_turn q false true first second rest = refl
     in_turn q false false first second rest = refl
@@ -59,10 +48,10 @@ IsOtherFile x y = ¬ ((x.partition ≡ y.partition) × (name_of x ≡ name_of y)
 
 module _ (m : FilesMap) where
   sizes_here : (p : List ℕ) (sizes : SizeMap) → sizes_in (finmap.insert m p sizes) p ≡ sizes
-  sizes_here p sizes = ap (λ (o : Option SizeMap). unwrap_or o finmap.empty) (finmap.get-insert nat_list_cmp_total m p sizes p ∙ ap (λ (b : Bool). cond b (Some sizes) (finmap.get m p)) (tied p))
+  sizes_here p sizes = ap (λ (o : Option SizeMap). unwrap_or o finmap.empty) (finmap.get-insert nat_list_cmp_total m p sizes p ∙ ap (λ (b : Bool). cond b (Some sizes) (finmap.get m p)) (path_same p))
 
   sizes_there : (p q : List ℕ) (sizes : SizeMap) → q ≢ p → sizes_in (finmap.insert m p sizes) q ≡ sizes_in m q
-  sizes_there p q sizes other = ap (λ (o : Option SizeMap). unwrap_or o finmap.empty) (finmap.get-insert nat_list_cmp_total m p sizes q ∙ ap (λ (b : Bool). cond b (Some sizes) (finmap.get m q)) (untied q p other _ refl))
+  sizes_there p q sizes other = ap (λ (o : Option SizeMap). unwrap_or o finmap.empty) (finmap.get-insert nat_list_cmp_total m p sizes q ∙ ap (λ (b : Bool). cond b (Some sizes) (finmap.get m q)) (path_other q p other))
 
 -- the sizes of a partition with one more file
 abbrev grown : FilesMap → List ℕ → List ℕ → ℕ → FilesMap

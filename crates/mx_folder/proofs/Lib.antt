@@ -11,3 +11,4 @@ pub mod PendingLemmas
 pub mod CompletedLemmas
 pub mod FoldLemmas
 pub mod FileLemmas
+pub mod ElementLemmas

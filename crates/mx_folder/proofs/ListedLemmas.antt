@@ -1,8 +1,8 @@
 -- The files that commits list are data files of completed commits, and stand outside `.hoodie/`.
-use Rattle.std.proofs.Common.{◌≡◌, ◌≢◌, ℕ, zero, suc, ◌^◌, arith, Bool, true, false, List, [], ◌∷◌, ◌++◌, get_or, Option, Some, None, refl, sym, ◌∙◌, ap, subst, nat_eq}
-use Rattle.std.specs.Prelude.{All, Contains, ◌&&◌, nat_lt, map, option_map, option_and_then}
+use Rattle.std.proofs.Common.{◌≡◌, ◌≢◌, ℕ, zero, suc, ◌^◌, arith, true, false, List, [], ◌∷◌, ◌++◌, get_or, Option, Some, None, refl, sym, ◌∙◌, ap, subst, nat_eq}
+use Rattle.std.specs.Prelude.{All, Contains, nat_lt, map, option_map, option_and_then}
 use Rattle.std.specs.Option.{option_to_list}
-use Rattle.std.proofs.lemmas.Bool.{false_from_ne_true}
+use Rattle.std.proofs.lemmas.Bool.{and_parts, false_from_ne_true}
 use Rattle.std.proofs.lemmas.Bool.Decides.{nat_tests, Decides-ltb}
 use Rattle.std.proofs.lemmas.Grind.{flat_map-append}
 use Rattle.std.proofs.lemmas.List.Elements.{All-map, All-append, All-contains, All-head, All-tail, All-weaker}
@@ -33,11 +33,7 @@ use Rattle.mx_folder.proofs.NamesReadLemmas.{commit_named}
 -- ---- data files stand outside
 
 same_first : (a : ℕ) (more : List ℕ) → is_hidden (a ∷ more) ≡ true → nat_eq 46 a ≡ true
-same_first a more is = first (nat_eq 46 a) _ is
-  where
-    first : (x y : Bool) → (x && y) ≡ true → x ≡ true
-    first true y h = refl
-    first false y h = absurd (cc h)
+same_first a more is = (and_parts (nat_eq 46 a) _ is).0
 
 eq_first : (a : ℕ) → nat_eq 46 a ≡ true → 46 ≡ a
 eq_first a is = grind (arith, nat_tests)
@@ -111,10 +107,6 @@ all_listed o (suc upto) = subst (All (IsListed o)) (sym (flat_map-append files_o
 abbrev data_file_of : FileAt → DataFile
 data_file_of file = record { partition = file.partition; file = file.file; at = file.at }
 
-both_tests : (a b : Bool) → (a && b) ≡ true → (a ≡ true) × (b ≡ true)
-both_tests true b h = (refl, h)
-both_tests false b h = absurd (cc h)
-
 pub listed_completed : (o : Objects) (upto : ℕ) (file : FileAt) → Contains (listed_files (actions_upto o upto)) file → IsCompleted o file.at
 listed_completed o upto file among = (All-contains (IsListed o) (listed_files (actions_upto o upto)) file (all_listed o upto) among).completed
 
@@ -122,7 +114,7 @@ pub listed_file : (o : Objects) (upto : ℕ) (file : FileAt) → Contains (liste
 listed_file o upto file among =
     let listed = All-contains (IsListed o) (listed_files (actions_upto o upto)) file (all_listed o upto) among in
     let named = object_at-stands o (commit_name file.at) listed.completed in
-    let tests = both_tests (nat_lt 0 file.at) (nat_lt file.at (10 ^ 17)) named.0 in
+    let tests = and_parts (nat_lt 0 file.at) (nat_lt file.at (10 ^ 17)) named.0 in
     record {
       partition = listed.partition;
       group = listed.group;

@@ -1,7 +1,6 @@
 -- Nothing that counts rests on a commit before it is completed, nor on what stands outside `.hoodie/` and no commit lists.
-use Rattle.std.proofs.Common.{◌≡◌, ◌≢◌, inl, inr, ℕ, Bool, true, false, List, refl, sym, ◌∙◌, ap, subst, ◌&&◌}
-use Rattle.std.specs.Prelude.{not, nat_lt, ◌||◌}
-use Rattle.mx_base.specs.Objects.{IsObjectName, is_instant, object_path}
+use Rattle.std.proofs.Common.{◌≡◌, ◌≢◌, inl, inr, ℕ, false, List, refl, sym, ◌∙◌, ap, subst}
+use Rattle.mx_base.specs.Objects.{IsObjectName, object_path}
 use Rattle.mx_base.specs.declared.object_name.ObjectName.{ObjectName}
 use Rattle.mx_base.specs.declared.object_name.ObjectName.TheVariants.{Config, Timeline, Metadata, Base, Log}
 use Rattle.mx_base.proofs.ObjectLemmas.{object_path-injective}
@@ -13,7 +12,7 @@ use Rattle.mx_folder.specs.Folder.{IsNeeded}
 use Rattle.mx_folder.specs.Reading.{IsDataFileOf}
 use Rattle.mx_folder.specs.Steps.{IsLoose, IsMadeBefore}
 use Rattle.mx_folder.proofs.ListedLemmas.{data_outside, lists_outside, lists_completed}
-use Rattle.mx_folder.proofs.NamedLemmas.{object_at-stands}
+use Rattle.mx_folder.proofs.NamedLemmas.{object_at-stands, is_delta_name}
 
 -- each object stands below `.hoodie/`
 pub hidden_object : (name : ObjectName) → IsHidden (object_path name)
@@ -24,15 +23,11 @@ hidden_object (Metadata at kind completed) = refl
 hidden_object (Base part shard upto kind) = refl
 hidden_object (Log part shard at) = refl
 
-delta_test : (a b : Bool) → (a && b) ≡ true → ((a || not true) && b) ≡ true
-delta_test true b h = h
-delta_test false b h = absurd (cc h)
-
 delta_named : (o : Objects) (at : ℕ) → IsCompleted o at → IsObjectName (delta_name at)
-delta_named o at done = let named = object_at-stands o (commit_name at) done in delta_test (nat_lt 0 at) (is_instant at) named.0
+delta_named o at done = is_delta_name at (object_at-stands o (commit_name at) done).0
 
 log_named : (o : Objects) (at : ℕ) → IsCompleted o at → IsObjectName (log_name at)
-log_named o at done = let named = object_at-stands o (commit_name at) done in named.0
+log_named o at done = (object_at-stands o (commit_name at) done).0
 
 module _ (o : Objects) (t : ℕ) (name : ObjectName) (is : IsObjectName name) (made : IsMadeBefore t name) (pending : ¬ (IsCompleted o t)) where
   -- a name of the path is this one

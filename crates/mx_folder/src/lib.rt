@@ -9,6 +9,7 @@
 //!
 //! | call | contract |
 //! |---|---|
+//! | `commit_name`, `delta_name`, `log_name` | the names of the objects that a commit makes below `.hoodie/` |
 //! | `loose_changes_keep_a_table` | a law: so does a change at a path on which nothing that counts rests |
 //! | `a_pending_commit_is_loose`, `a_pending_file_is_loose`, `what_is_not_listed_is_loose` | laws: nothing that counts rests on these paths |
 //! | `a_new_table_is_valid` | a law: the changes that make a new table (`specs/Begin.antt`) leave one without commits |
@@ -17,6 +18,7 @@
 #![tactic(auto)]
 
 mod laws;
+mod names;
 mod pending;
 
 pub use laws::{
@@ -24,4 +26,5 @@ pub use laws::{
     a_pending_file_is_loose, completed_commits_count, loose_changes_keep_a_table,
     what_is_not_listed_is_loose,
 };
+pub use names::{commit_name, delta_name, log_name};
 pub use pending::Pending;

@@ -15,7 +15,7 @@ use Rattle.std.proofs.lemmas.List.{append-nil, length-append, length-map}
 use Rattle.std.proofs.lemmas.List.Concat.{flat_map-cons}
 use Rattle.std.proofs.lemmas.List.Elements.{All-head, All-tail}
 use Rattle.std.proofs.lemmas.List.Sums.{sum_by-append, sum_by-cons}
-use Rattle.std.proofs.lemmas.Map.Keys.{sorted_tail, below_from_sorted}
+use Rattle.std.proofs.lemmas.Map.Keys.{sorted_tail}
 use Rattle.mx_base.specs.Paths.{group_name}
 use Rattle.mx_base.specs.declared.entry.FileAt.{FileAt}
 use Rattle.mx_meta.specs.declared.commit_meta.PartitionStats.{PartitionStats}
@@ -24,6 +24,7 @@ use Rattle.mx_model.specs.Listing.{file_of, files_of, listed_files}
 use Rattle.mx_model.specs.declared.action.Action.{Action}
 use Rattle.mx_store.specs.Objects.{Objects}
 use Rattle.mx_folder.specs.Actions.{action_at, actions_upto}
+use Rattle.mx_folder.proofs.CompletedLemmas.{head_below}
 use Rattle.mx_groups.specs.declared.groups.Groups.{Groups}
 use Rattle.mx_groups.specs.Groups.{groups_of, groups_at, count_in, AreGroupsOf, AreAllUpto, CountsLive}
 use Rattle.mx_groups.proofs.GroupLemmas.{mapped_push, same_test}
@@ -126,9 +127,6 @@ count_below [] q above = refl
 count_below (e ∷ entries) q above =
     let first : q < e.0 = All-head (λ t. q < t) e.0 (keys_of entries) above in
     count_past e entries q (λ same. absurd (omega (arith, same, first))) ∙ count_below entries q (All-tail (λ t. q < t) e.0 (keys_of entries) above)
-
-head_below : (k : ℕ) (ks : List ℕ) → IsStrictlySortedBy nat_cmp (k ∷ ks) → All (λ t. k < t) ks
-head_below k ks sorted = λ i d within. below_from_sorted (k ∷ ks) 0 (suc i) d sorted (omega arith) (omega (arith, within))
 
 counts_sum : (entries : List (ℕ × List (List ℕ))) (at : ℕ) → IsStrictlySortedBy nat_cmp (keys_of entries) → ((q : ℕ) → at < q → count_at entries q ≡ 0) → count_all (values_of entries) ≡ sum_upto (count_at entries) at
 counts_sum [] at sorted beyond = sym (sums_none at)

@@ -55,10 +55,10 @@ listed_less at old new updates q =
 pub newest_start : (group : List ℕ) → IsNewestIn [] group 0
 newest_start group = record { counts = λ some. absurd (some refl); above = All-nil _ }
 
-max_cases : (a b : ℕ) → (max a b ≡ a) ⊎ (max a b ≡ b)
+pub max_cases : (a b : ℕ) → (max a b ≡ a) ⊎ (max a b ≡ b)
 max_cases a b = grind arith
 
-max_left : (a b : ℕ) → a ≤ max a b
+pub max_left : (a b : ℕ) → a ≤ max a b
 max_left a b = grind arith
 
 max_right : (a b : ℕ) → b ≤ max a b

@@ -71,10 +71,7 @@ pub(crate) fn entry(alloc: Global, key: &[u8], value: &[u8]) -> Result<Entry, Al
     })
 }
 
-pub(crate) fn entries_of(
-    alloc: Global,
-    pairs: &[(&[u8], &[u8])],
-) -> Result<Vec<Entry>, AllocError> {
+fn entries_of(alloc: Global, pairs: &[(&[u8], &[u8])]) -> Result<Vec<Entry>, AllocError> {
     let mut entries = Vec::new(alloc);
     for &(key, value) in pairs {
         entries.push(entry(alloc, key, value)?)?;

@@ -43,7 +43,7 @@ use Rattle.mx_folder.specs.Reading.{Reads, IsAvailable, SpellPayloads}
 use Rattle.mx_folder.specs.Slices.{base_of, log_of, base_entries, entries_at, logged_entries, slice_at}
 use Rattle.mx_folder.proofs.ActionLemmas.{action_at-some}
 use Rattle.mx_folder.proofs.CompletedLemmas.{logged_completed}
-use Rattle.mx_folder.proofs.NamedLemmas.{object_at-is, object_at-stands, object_at-some, is_some_same}
+use Rattle.mx_folder.proofs.NamedLemmas.{object_at-is, object_at-stands, object_at-some, is_some_same, some_value}
 use Rattle.mx_folder.proofs.PendingLemmas.{hidden_object}
 use Rattle.mx_world.specs.declared.mirror.Mirror.{Mirror}
 use Rattle.mx_world.specs.Mirror.{IsMirrorOf}
@@ -121,10 +121,6 @@ slice_found o opens at =
     ∙ ap (λ (es : List Entry). base_entries o ++ es) (logs_same o at ∙ logged_completed o (completed_reads o opens) at)
 
 -- ---- each value of the slice is a payload
-
-some_value : (x : Option (List ℕ)) → IsSome x → (bytes : List ℕ) × (x ≡ Some bytes)
-some_value None stands = absurd (cc stands)
-some_value (Some bytes) stands = (bytes, refl)
 
 files_first : (parts : List Part) → slice_get parts 0 ≡ Some FilesPart → Contains parts FilesPart
 files_first [] is = absurd (cc is)

@@ -14,11 +14,11 @@ use Rattle.mx_store.specs.Objects.{Objects, at_path}
 use Rattle.mx_folder.specs.Actions.{action_at}
 use Rattle.mx_folder.specs.Named.{commit_name, object_at}
 use Rattle.mx_folder.proofs.ActionLemmas.{completed_action}
-use Rattle.mx_folder.proofs.NamedLemmas.{object_at-is}
+use Rattle.mx_folder.proofs.ElementLemmas.{among_cases}
+use Rattle.mx_folder.proofs.NamedLemmas.{object_at-is, path_of_commit, commit_of_path}
 use Rattle.mx_groups.specs.Groups.{AreCommits}
-use Rattle.mx_open.specs.Leaving.{AreNamesOf, is_at}
-use Rattle.mx_open.proofs.KeyLemmas.{cons_cases}
-use Rattle.mx_open.proofs.LeavingLemmas.{commit_instant-named, commit_is, named_among, nat_eq-self}
+use Rattle.mx_open.specs.Leaving.{AreNamesOf}
+use Rattle.mx_open.proofs.LeavingLemmas.{named_among}
 
 -- ---- elements that are told or not
 
@@ -41,7 +41,7 @@ told_among f [] path action among told = absurd (omega (arith, among.1))
 told_among f (p ∷ paths) path action among told = ⊎_elim
     (λ (here : p ≡ path). subst (λ (x : Option Action). Contains (map (λ (a : Action). a.at) (cons_option x (filter_map f paths))) action.at) (sym (ap f here ∙ told)) (0, omega arith, refl))
     (λ (there : Contains paths path). from (f p) (told_among f paths path action there told))
-    (cons_cases p path paths among)
+    (among_cases path p paths among)
   where
     from : (x : Option Action) → Contains (map (λ (a : Action). a.at) (filter_map f paths)) action.at → Contains (map (λ (a : Action). a.at) (cons_option x (filter_map f paths))) action.at
     from None further = further
@@ -62,7 +62,7 @@ module _ (o held : Objects) (same : (name : ObjectName) → object_at held name 
   by_path : (path : List ℕ) (at : ℕ) → commit_instant path ≡ Some at → timeline.action_at held path ≡ action_at o at
   unfolding action_at
   by_path path at is =
-      let commit = commit_is path at (ap (is_at at) is ∙ nat_eq-self at) in
+      let commit = path_of_commit path at is in
       let here : at_path held path ≡ object_at o (commit_name at) = ap (at_path held) commit.1 ∙ sym (object_at-is held (commit_name at) commit.0) ∙ same (commit_name at) in
       ap (λ (x : Option ℕ). option_and_then (λ (t : ℕ). option_and_then (timeline.action_of t) (at_path held path)) x) is
       ∙ ap (λ (b : Option (List ℕ)). option_and_then (timeline.action_of at) b) here
@@ -87,5 +87,5 @@ are_commits o held names actions named is = subst (AreCommits o) (sym is) (recor
     among at (Some action) counts some =
         let done = completed_action o at action counts in
         let found = named_among o names named.all (commit_name at) done.1 in
-        let told : timeline.action_at held (object_path (commit_name at)) ≡ Some action = by_path o held named.same (object_path (commit_name at)) at (commit_instant-named at found.0) ∙ counts in
+        let told : timeline.action_at held (object_path (commit_name at)) ≡ Some action = by_path o held named.same (object_path (commit_name at)) at (commit_of_path (object_path (commit_name at)) at found.0 refl) ∙ counts in
         subst (Contains (map (λ (a : Action). a.at) (filter_map (timeline.action_at held) names))) done.0 (told_among (timeline.action_at held) names (object_path (commit_name at)) action found.1 told)

@@ -1,48 +1,21 @@
 -- What is damaged, by the objects that stand and the bases that count.
-use Rattle.std.proofs.Common.{◌≡◌, inl, inr, ℕ, ◌^◌, Bool, true, false, ◌&&◌, List, get_or, All, Option, Some, None, IsSome, IfSome, refl, sym, ◌∙◌, ap, subst}
-use Rattle.std.specs.Prelude.{Contains, option_and_then, nat_lt, not, ◌||◌}
+use Rattle.std.proofs.Common.{◌≡◌, inl, inr, ℕ, List, get_or, All, Option, Some, None, IsSome, IfSome, refl, sym, ◌∙◌, ap, subst}
+use Rattle.std.specs.Prelude.{Contains, option_and_then}
 use Rattle.std.specs.FinMap as finmap
-use Rattle.std.proofs.lemmas.Bool.Decides.{Decides-ltb}
 use Rattle.std.proofs.lemmas.List.{get_or_default}
 use Rattle.std.proofs.lemmas.List.Elements.{All-contains}
-use Rattle.mx_base.specs.Objects.{IsObjectName, is_instant, object_path}
+use Rattle.mx_base.specs.Objects.{object_path}
 use Rattle.mx_base.specs.Paths.{commit_instant}
-use Rattle.mx_base.proofs.ObjectLemmas.{object_path-commit}
-use Rattle.mx_base.proofs.PathLemmas.{IsCommitAt-commit_instant, commit_instant-commit_path}
 use Rattle.mx_meta.specs.ShardFiles.{delta_meta_of}
 use Rattle.mx_store.specs.Objects.{Objects, at_path}
 use Rattle.mx_store.proofs.Keys.{in_keys, stands_from_keys}
 use Rattle.mx_folder.specs.Named.{object_at, commit_name, delta_name}
 use Rattle.mx_folder.specs.Actions.{IsCompleted}
 use Rattle.mx_folder.specs.Folder.{IsNeeded}
-use Rattle.mx_folder.proofs.NamedLemmas.{object_at-is, object_at-stands, is_some_same}
+use Rattle.mx_folder.proofs.NamedLemmas.{object_at-is, object_at-stands, is_some_same, is_delta_name, path_of_commit, commit_of_path}
 use Rattle.mx_open.specs.Deciding.{IsLeastOther, lesser, IsContext, IsFine, IsReadableBase, MeetsCommit, MeetsObject, IsUnharmed}
 use Rattle.mx_open.proofs.LeastLemmas.{least_as, both_least}
 use Rattle.mx_open.specs.declared.context.Context.{Context}
-
-both_true : (a b : Bool) → a ≡ true → b ≡ true → (a && b) ≡ true
-both_true a b first second = ap (λ (x : Bool). x && b) first ∙ second
-
-first_true : (a b : Bool) → (a && b) ≡ true → a ≡ true
-first_true true b is = refl
-first_true false b is = absurd (cc is)
-
-second_true : (a b : Bool) → (a && b) ≡ true → b ≡ true
-second_true true b is = is
-second_true false b is = absurd (cc is)
-
-delta_test : (a b : Bool) → (a && b) ≡ true → ((a || not true) && b) ≡ true
-delta_test true b h = h
-delta_test false b h = absurd (cc h)
-
--- the object that names the logs of a commit has a name
-delta_is_name : (at : ℕ) → IsObjectName (commit_name at) → IsObjectName (delta_name at)
-delta_is_name at is = delta_test (nat_lt 0 at) (is_instant at) is
-
-commit_found : (at : ℕ) → IsObjectName (commit_name at) → commit_instant (object_path (commit_name at)) ≡ Some at
-commit_found at is =
-    ap commit_instant (object_path-commit at)
-    ∙ commit_instant-commit_path at ((Decides-ltb 0 at).0 (first_true (nat_lt 0 at) (is_instant at) is)) ((Decides-ltb at (10 ^ 17)).0 (second_true (nat_lt 0 at) (is_instant at) is))
 
 module _ (o : Objects) (context : Context) (is : IsContext o context) where
   abbrev EachMeets : List ℕ → Type 0
@@ -57,10 +30,10 @@ module _ (o : Objects) (context : Context) (is : IsContext o context) where
   met_commit : (q : List ℕ) → EachMeets q → (at : ℕ) → IsCompleted o at → MeetsCommit o context at q
   met_commit q each at done =
       let named = object_at-stands o (commit_name at) done in
-      subst (λ (x : Option ℕ). IfSome x (λ at. MeetsCommit o context at q)) (commit_found at named.0) (met_at q each (object_path (commit_name at)) named.1).1
+      subst (λ (x : Option ℕ). IfSome x (λ at. MeetsCommit o context at q)) (commit_of_path (object_path (commit_name at)) at named.0 refl) (met_at q each (object_path (commit_name at)) named.1).1
 
   delta_same : (at : ℕ) → IsCompleted o at → object_at o (delta_name at) ≡ at_path o (object_path (delta_name at))
-  delta_same at done = let named = object_at-stands o (commit_name at) done in object_at-is o (delta_name at) (delta_is_name at named.0)
+  delta_same at done = object_at-is o (delta_name at) (is_delta_name at (object_at-stands o (commit_name at) done).0)
 
   pub unharmed_from : (q : List ℕ) → EachMeets q × EachBase q → IsUnharmed o q
   unharmed_from q both = (fine, stands)
@@ -79,10 +52,8 @@ module _ (o : Objects) (context : Context) (is : IsContext o context) where
   -- the commit whose path it is
   completed_by : (path : List ℕ) (at : ℕ) → commit_instant path ≡ Some at → IsSome (at_path o path) → IsCompleted o at
   completed_by path at is_commit stands =
-      let found = IsCommitAt-commit_instant path at is_commit in
-      let is_name : IsObjectName (commit_name at) = both_true (nat_lt 0 at) (is_instant at) ((Decides-ltb 0 at).1 found.positive) ((Decides-ltb at (10 ^ 17)).1 found.small) in
-      let same : path ≡ object_path (commit_name at) = found.is ∙ sym (object_path-commit at) in
-      is_some_same _ _ (object_at-is o (commit_name at) is_name ∙ ap (at_path o) (sym same)) stands
+      let found = path_of_commit path at is_commit in
+      is_some_same _ _ (object_at-is o (commit_name at) found.0 ∙ ap (at_path o) (sym found.1)) stands
 
   pub each_from : (q : List ℕ) → IsUnharmed o q → EachMeets q × EachBase q
   each_from q unharmed = (objects, bases)

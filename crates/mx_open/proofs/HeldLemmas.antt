@@ -1,5 +1,5 @@
 -- The objects below `.hoodie/` say what a folder is.
-use Rattle.std.proofs.Common.{◌≡◌, ◌≢◌, inl, inr, ⊎_elim, ℕ, ◌+◌, ◌<◌, ◌≤◌, arith, Bool, true, false, cond, suc, List, [], ◌∷◌, take, get_or, length, Option, Some, None, IsSome, IfSome, Result, Ok, Err, refl, sym, ◌∙◌, ap, subst}
+use Rattle.std.proofs.Common.{◌≡◌, ◌≢◌, inl, inr, ⊎_elim, ℕ, ◌+◌, ◌<◌, ◌≤◌, arith, Bool, true, false, List, [], take, get_or, length, Option, Some, None, IsSome, IfSome, Result, Ok, Err, refl, sym, ◌∙◌, ap, subst}
 use Rattle.std.specs.Prelude.{Contains, option_and_then, filter, not}
 use Rattle.std.specs.FinMap as finmap
 use Rattle.std.proofs.lemmas.List.{take_all}
@@ -15,7 +15,8 @@ use Rattle.mx_store.proofs.Keys.{in_keys}
 use Rattle.mx_store.proofs.Paths.{at_nothing, at_same, at_other, cases_path}
 use Rattle.mx_folder.specs.Named.{object_at, commit_name, delta_name, first_bases, is_hidden, IsHidden}
 use Rattle.mx_folder.specs.Folder.{IsObjectAt, IsNeeded, IsSound}
-use Rattle.mx_folder.proofs.NamedLemmas.{object_at-same, is_some_same}
+use Rattle.mx_folder.proofs.ElementLemmas.{among_filter}
+use Rattle.mx_folder.proofs.NamedLemmas.{object_at-same, is_some_same, none_from}
 use Rattle.mx_folder.proofs.PendingLemmas.{hidden_object, unneeded_outside}
 use Rattle.mx_folder.proofs.ReadingLemmas.{available_from, named_bases-same, reads_same}
 use Rattle.mx_open.specs.Deciding.{Adds, AreHeld, IsFine, IsUnharmed}
@@ -24,7 +25,7 @@ use Rattle.mx_open.specs.Opening.{IsCurrent, Opens, OpensHeld}
 use Rattle.mx_open.specs.declared.error.ReadError.{ReadError}
 use Rattle.mx_open.specs.declared.error.ReadError.TheVariants.{NotATable, Version, Damaged, StoreFault, NoMemory}
 use Rattle.mx_open.specs.declared.folder.Folder.{Folder}
-use Rattle.mx_open.proofs.KeyLemmas.{is_nothing, all_paths, cons_cases}
+use Rattle.mx_open.proofs.KeyLemmas.{all_paths}
 
 -- ---- read one after the other
 
@@ -37,7 +38,7 @@ held_none o paths = record {
 held_added : (path : List ℕ) (old new o : Objects) (x : Option (List ℕ)) → at_path o path ≡ x → Adds path x old new → (read paths : List (List ℕ)) → Contains paths path → AreHeld old o read paths →
     ((q : List ℕ) → at_path old q ≡ at_path o q → at_path new q ≡ at_path o q) × (at_path new path ≡ at_path o path) × ((q bytes : List ℕ) → at_path new q ≡ Some bytes → (at_path o q ≡ Some bytes) × Contains paths q)
 held_added path old new o None none same read paths among held =
-    let here : at_path old path ≡ None = is_nothing (at_path old path) (λ stands. missing (at_path old path) refl stands) in (
+    let here : at_path old path ≡ None = none_from (at_path old path) (λ stands. missing (at_path old path) refl stands) in (
       λ q is. ap (λ (m : Objects). at_path m q) same ∙ is,
       ap (λ (m : Objects). at_path m path) same ∙ here ∙ sym none,
       λ q bytes stands. held.only q bytes (sym (ap (λ (m : Objects). at_path m q) same) ∙ stands),
@@ -201,17 +202,6 @@ opens_up h o names others paths (Err (Damaged path)) inner outer keys hidden res
 opens_up h o names others paths (Err StoreFault) inner outer keys hidden rest fault = tt
 opens_up h o names others paths (Err NoMemory) inner outer keys hidden rest fault = tt
 
-passes_among : (p : List ℕ → Bool) (xs : List (List ℕ)) (x : List ℕ) → Contains xs x → p x ≡ true → Contains (filter p xs) x
-passes_among p [] x among passes = absurd (omega (arith, among.1))
-passes_among p (y ∷ xs) x among passes = ⊎_elim
-    (λ (here : y ≡ x). subst (λ (b : Bool). Contains (cond b (y ∷ filter p xs) (filter p xs)) x) (sym (ap p here ∙ passes)) (0, omega arith, here))
-    (λ (there : Contains xs x). from (p y) (passes_among p xs x there passes))
-    (cons_cases y x xs among)
-  where
-    from : (b : Bool) → Contains (filter p xs) x → Contains (cond b (y ∷ filter p xs) (filter p xs)) x
-    from true among = (suc among.0, omega (arith, among.1), among.2)
-    from false among = among
-
 pub opens_from : (before : Option (List Change)) (h : Objects) (names others paths : List (List ℕ)) (r : Result Folder ReadError) → IfSome before (λ j. paths ≡ paths_with [] (objects_of j)) → names ≡ filter is_hidden paths →
     others ≡ filter (λ path. not (is_hidden path)) paths → IfSome before (λ j. AreHeld h (objects_of j) names names) → OpensHeld h names others r → IfSome before (λ j. Opens (objects_of j) r)
 opens_from None h names others paths r told hidden rest held opens = tt
@@ -228,14 +218,14 @@ opens_from (Some j) h names others paths r told hidden rest held opens = opens_u
     inner q hid = from (at_path (objects_of j) q) refl
       where
         from : (x : Option (List ℕ)) → at_path (objects_of j) q ≡ x → at_path h q ≡ at_path (objects_of j) q
-        from None none = is_nothing (at_path h q) (λ stands. nothing_new q none (at_path h q) refl stands) ∙ sym none
+        from None none = none_from (at_path h q) (λ stands. nothing_new q none (at_path h q) refl stands) ∙ sym none
         from (Some bytes) stands =
             let among : Contains (finmap.keys (objects_of j)) q = in_keys (objects_of j) q (is_some_same _ _ stands refl) in
-            let named : Contains names q = subst (λ (ps : List (List ℕ)). Contains ps q) (sym (hidden ∙ ap (λ (ps : List (List ℕ)). filter is_hidden ps) keys)) (passes_among is_hidden (finmap.keys (objects_of j)) q among hid) in
+            let named : Contains names q = subst (λ (ps : List (List ℕ)). Contains ps q) (sym (hidden ∙ ap (λ (ps : List (List ℕ)). filter is_hidden ps) keys)) (among_filter is_hidden (finmap.keys (objects_of j)) q among hid) in
             All-contains (λ (path : List ℕ). at_path h path ≡ at_path (objects_of j) path) names q held.found named
 
     outer : (q : List ℕ) → is_hidden q ≡ false → at_path h q ≡ None
-    outer q outside = is_nothing (at_path h q) (λ stands. from (at_path h q) refl stands)
+    outer q outside = none_from (at_path h q) (λ stands. from (at_path h q) refl stands)
       where
         from : (y : Option (List ℕ)) → at_path h q ≡ y → IsSome y → ⊥
         from None is stands = absurd (cc stands)

@@ -15,11 +15,11 @@ use Rattle.mx_meta.specs.Views.{Bases}
 use Rattle.mx_folder.specs.Begin.{first_mark, init_changes}
 use Rattle.mx_folder.specs.Named.{first_base, first_bases}
 use Rattle.mx_folder.proofs.BeginLemmas.{new_valid, none_completed}
-use Rattle.mx_folder.proofs.NamedLemmas.{other_path}
+use Rattle.mx_folder.proofs.NamedLemmas.{other_path, after_all-append}
 use Rattle.mx_schema.specs.Columns.{IsSchema}
 use Rattle.mx_schema.specs.declared.column.Column.{Column}
 use Rattle.mx_store.specs.Journal.{AreAllowed}
-use Rattle.mx_store.specs.Objects.{Objects, at_path, apply, after_all, objects_of}
+use Rattle.mx_store.specs.Objects.{Objects, at_path, after_all, objects_of}
 use Rattle.mx_store.specs.declared.change.Change.{Change}
 use Rattle.mx_store.proofs.Journal.{objects_of-push}
 use Rattle.mx_store.proofs.Paths.{at_nothing, at_other}
@@ -137,10 +137,6 @@ may_init before schema changes all none = subst (λ (cs : List Change). MayMake 
     from : (before : Option (List Change)) → FirstOf before None → MayMake before (init_changes schema)
     from None none = tt
     from (Some journal) none = subst (λ (o : Objects). AreAllowed o (init_changes schema)) (sym (nothing_is (objects_of journal) none)) (init_allowed schema)
-
-after_all-append : (o : Objects) (xs ys : List Change) → after_all o (xs ++ ys) ≡ after_all (after_all o xs) ys
-after_all-append o [] ys = refl
-after_all-append o (x ∷ xs) ys = after_all-append (apply x o) xs ys
 
 new_after : (journal : List Change) (schema : List Column) → HoldsNothing (objects_of journal) → objects_of (journal ++ init_changes schema) ≡ objects_of (init_changes schema)
 new_after journal schema none = after_all-append finmap.empty journal (init_changes schema) ∙ ap (λ (o : Objects). after_all o (init_changes schema)) (nothing_is (objects_of journal) none)

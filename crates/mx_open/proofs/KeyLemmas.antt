@@ -1,5 +1,5 @@
 -- The paths of a folder, in byte order.
-use Rattle.std.proofs.Common.{◌≡◌, ◌≢◌, ◌⊎◌, inl, inr, ⊎_elim, ℕ, zero, suc, ◌<◌, arith, get_or, length, Bool, true, false, cond, ◌&&◌, List, [], ◌∷◌, Option, Some, None, IsSome, IfSome, refl, sym, ◌∙◌, ap, subst, nat_eq, Ordering, Less, Equal, Greater}
+use Rattle.std.proofs.Common.{◌≡◌, ◌≢◌, ◌⊎◌, ⊎_elim, ℕ, arith, Bool, true, false, cond, ◌&&◌, List, [], ◌∷◌, Option, Some, None, IfSome, refl, sym, ◌∙◌, ap, subst, nat_eq, Ordering, Less, Equal, Greater}
 use lib.Dec.{T}
 use Rattle.std.specs.Prelude.{filter, Contains, slice_get, unwrap_or}
 use Rattle.std.specs.FinMap as finmap
@@ -14,6 +14,8 @@ use Rattle.std.proofs.lemmas.List.Elements.{All-contains, All-from_recursion}
 use Rattle.mx_store.specs.Objects.{Objects, at_path, paths_with, objects_of}
 use Rattle.mx_store.specs.declared.change.Change.{Change}
 use Rattle.mx_store.proofs.Keys.{in_keys, stands_from_keys}
+use Rattle.mx_folder.proofs.ElementLemmas.{among_cases, among_none}
+use Rattle.mx_folder.proofs.NamedLemmas.{none_from}
 use Rattle.mx_open.specs.Init.{HoldsNothing, IsFirstPath, FirstOf}
 
 abbrev IsBefore : List ℕ → List ℕ → Type 0
@@ -49,20 +51,13 @@ keys_rise o = rising (finmap.entries o) (finmap.entries_sorted o)
 pub not_before : (x y : List ℕ) → slice_cmp nat_cmp x y ≡ Less → slice_cmp nat_cmp y x ≢ Less
 not_before x y less other = absurd (cc (sym other ∙ nat_list_cmp_total.antisymm y x ∙ ap ordering_reverse less))
 
-pub cons_cases : {X : Type 0} (head x : X) (rest : List X) → Contains (head ∷ rest) x → (head ≡ x) ⊎ Contains rest x
-cons_cases {X} head x rest p = by_index p.0 p.1 p.2
-  where
-    by_index : (k : ℕ) → k < suc (length rest) → get_or (head ∷ rest) k x ≡ x → (head ≡ x) ⊎ Contains rest x
-    by_index zero within found = inl found
-    by_index (suc k) within found = inr (k, omega (arith, within), found)
-
 -- no path of a list that rises is before the first
 head_first : (head other : List ℕ) (rest : List (List ℕ)) → IsStrictlySortedBy (slice_cmp nat_cmp) (head ∷ rest) → Contains (head ∷ rest) other → slice_cmp nat_cmp other head ≢ Less
 unfolding IsStrictlySortedBy
 head_first head other rest rises among = ⊎_elim
     (λ (same : head ≡ other). λ less. absurd (cc (sym (tied_itself nat_list_cmp_total head) ∙ ap (λ (x : List ℕ). slice_cmp nat_cmp x head) same ∙ less)))
     (λ (later : Contains rest other). not_before head other (All-contains (IsBefore head) rest other (All-from_recursion (IsBefore head) rest rises.0) later))
-    (cons_cases head other rest among)
+    (among_cases other head rest among)
 
 -- ---- the first path
 
@@ -78,15 +73,8 @@ all_pass (path ∷ paths) =
 pub all_paths : (o : Objects) → paths_with [] o ≡ finmap.keys o
 all_paths o = all_pass (finmap.keys o)
 
-pub is_nothing : (x : Option (List ℕ)) → (IsSome x → ⊥) → x ≡ None
-is_nothing None not = refl
-is_nothing (Some bytes) not = absurd (not refl)
-
-no_element : {X : Type 0} (x : X) → Contains [] x → ⊥
-no_element x among = absurd (omega (arith, among.1))
-
 no_keys : (o : Objects) → finmap.keys o ≡ [] → HoldsNothing o
-no_keys o none q = is_nothing (at_path o q) (λ stands. no_element q (subst (λ (ks : List (List ℕ)). Contains ks q) none (in_keys o q stands)))
+no_keys o none q = none_from (at_path o q) (λ stands. among_none q (subst (λ (ks : List (List ℕ)). Contains ks q) none (in_keys o q stands)))
 
 first_key : (o : Objects) (p : List ℕ) (ps : List (List ℕ)) → finmap.keys o ≡ p ∷ ps → IsFirstPath o p
 first_key o p ps is = record {

@@ -1,6 +1,6 @@
 -- The names of a folder tell its pending commits, and what these left.
-use Rattle.std.proofs.Common.{◌≡◌, ◌≢◌, ◌⊎◌, inl, inr, ⊎_elim, ℕ, ◌+◌, ◌^◌, ◌<◌, arith, Bool, true, false, cond, ◌||◌, List, [], ◌∷◌, ◌++◌, take, get_or, length, map, Option, Some, None, IsSome, refl, sym, ◌∙◌, ap, subst, codes}
-use Rattle.std.specs.Prelude.{Contains, IsTrue, IfOk, Result, Ok, Err, not, filter, nat_eq, nat_lt, option_and_then, unwrap_or}
+use Rattle.std.proofs.Common.{◌≡◌, ◌≢◌, ◌⊎◌, inl, inr, ⊎_elim, ℕ, ◌+◌, ◌<◌, Bool, true, false, cond, ◌||◌, List, [], ◌∷◌, ◌++◌, take, get_or, length, map, Option, Some, None, IsSome, refl, sym, ◌∙◌, ap, subst, codes}
+use Rattle.std.specs.Prelude.{Contains, IsTrue, IfOk, Result, Ok, Err, not, filter, option_and_then, unwrap_or}
 use Rattle.std.specs.BTreeMap as tree
 use Rattle.std.specs.BTreeMap.{BTreeMap}
 use Rattle.std.specs.BTreeSet.{BTreeSet, contains}
@@ -11,20 +11,17 @@ use Rattle.std.specs.List.Sorted.{IsStrictlySortedBy}
 use Rattle.std.specs.Option.{option_map_or}
 use Rattle.std.specs.Ordering.{nat_cmp, eq_by_cmp}
 use Rattle.std.specs.Str.{bytes_eq}
-use Rattle.std.proofs.lemmas.Bool.{and_parts, and_from, false_from_ne_true, not_from_false}
-use Rattle.std.proofs.lemmas.Bool.Decides.{nat_tests, Decides-ltb}
+use Rattle.std.proofs.lemmas.Bool.{and_parts, and_from, or_cases, or_left, or_right, eq-eqb, eqb-true, false_from_ne_true, not_from_false}
 use Rattle.std.proofs.lemmas.List.{take_more}
 use Rattle.std.proofs.lemmas.List.Elements.{All-contains, All-map, All-contains_itself, All-weaker}
 use Rattle.std.proofs.lemmas.List.Folds.{Any-from_list_any, list_any-from_Any}
 use Rattle.std.proofs.lemmas.Map.Lookups.{exact_unsigned}
 use Rattle.std.proofs.lemmas.Map.Views.{btree_set_contains_iff, tells_apart}
 use Rattle.std.proofs.lemmas.Slice.Eq.{bytes_eq-Decides}
-use Rattle.mx_base.specs.Objects.{is_object_name, IsObjectName, is_instant, object_path}
+use Rattle.mx_base.specs.Objects.{is_object_name, IsObjectName, object_path}
 use Rattle.mx_base.specs.Paths.{commit_instant}
 use Rattle.mx_base.specs.declared.object_name.ObjectName.{ObjectName}
 use Rattle.mx_base.specs.declared.object_name.ObjectName.TheVariants.{Log}
-use Rattle.mx_base.proofs.ObjectLemmas.{object_path-commit}
-use Rattle.mx_base.proofs.PathLemmas.{IsCommitAt-commit_instant, commit_instant-commit_path}
 use Rattle.mx_meta.specs.PathLists.{path_list_of}
 use Rattle.mx_meta.specs.declared.path_list.PathList.{PathList}
 use Rattle.mx_store.specs.Objects.{Objects, at_path, paths_with}
@@ -34,33 +31,15 @@ use Rattle.mx_folder.specs.Actions.{IsCompleted}
 use Rattle.mx_folder.specs.Pending.{requested_name, inflight_name, inflight_files, IsPending, ArePicked, IsLeft, instants_of, ArePending}
 use Rattle.mx_folder.specs.Reading.{IsLogOf}
 use Rattle.mx_folder.specs.declared.pending.Pending.{Pending}
-use Rattle.mx_folder.proofs.NamedLemmas.{object_at-is, object_at-stands, is_some_same}
+use Rattle.mx_folder.proofs.NamedLemmas.{object_at-is, object_at-stands, is_some_same, path_of_commit, commit_of_path}
 use Rattle.mx_folder.proofs.PendingLemmas.{hidden_object}
 use Rattle.mx_open.specs.Leaving.{is_at, begins, is_pending_by, AreNamesOf, logs_in, PicksNext, AddsAt, AreLogged, files_in, files_at, leftover}
 
 -- ---- tests
 
-or_cases : (a b : Bool) → (a || b) ≡ true → (a ≡ true) ⊎ (b ≡ true)
-or_cases true b is = inl refl
-or_cases false b is = inr is
-
-or_left : (a b : Bool) → a ≡ true → (a || b) ≡ true
-or_left true b is = refl
-or_left false b is = absurd (cc is)
-
-or_right : (a b : Bool) → b ≡ true → (a || b) ≡ true
-or_right true b is = refl
-or_right false b is = is
-
 not_true : (b : Bool) → not b ≡ true → b ≢ true
 not_true true is holds = absurd (cc is)
 not_true false is holds = absurd (cc holds)
-
-nat_eq-is : (a b : ℕ) → nat_eq a b ≡ true → a ≡ b
-nat_eq-is a b is = grind (arith, nat_tests)
-
-pub nat_eq-self : (a : ℕ) → nat_eq a a ≡ true
-nat_eq-self a = grind (arith, nat_tests)
 
 -- ---- the commit that a path begins
 
@@ -85,22 +64,15 @@ path_inflight q path named is =
 
 -- ---- the commit that a path completes
 
-pub commit_is : (path : List ℕ) (q : ℕ) → is_at q (commit_instant path) ≡ true → IsObjectName (commit_name q) × (path ≡ object_path (commit_name q))
+commit_is : (path : List ℕ) (q : ℕ) → is_at q (commit_instant path) ≡ true → IsObjectName (commit_name q) × (path ≡ object_path (commit_name q))
 commit_is path q test = from (commit_instant path) refl test
   where
     from : (found : Option ℕ) → commit_instant path ≡ found → is_at q found ≡ true → IsObjectName (commit_name q) × (path ≡ object_path (commit_name q))
     from None is test = absurd (cc test)
-    from (Some n) is test =
-        let found = IsCommitAt-commit_instant path q (is ∙ ap (λ (x : ℕ). Some x) (nat_eq-is n q test)) in
-        (and_from (nat_lt 0 q) (is_instant q) ((Decides-ltb 0 q).1 found.positive) ((Decides-ltb q (10 ^ 17)).1 found.small), found.is ∙ sym (object_path-commit q))
-
-pub commit_instant-named : (q : ℕ) → IsObjectName (commit_name q) → commit_instant (object_path (commit_name q)) ≡ Some q
-commit_instant-named q named =
-    let parts = and_parts (nat_lt 0 q) (is_instant q) named in
-    ap commit_instant (object_path-commit q) ∙ commit_instant-commit_path q ((Decides-ltb 0 q).0 parts.0) ((Decides-ltb q (10 ^ 17)).0 parts.1)
+    from (Some n) is test = path_of_commit path q (is ∙ ap (λ (x : ℕ). Some x) (eqb-true n q test))
 
 is_commit : (q : ℕ) → IsObjectName (commit_name q) → is_at q (commit_instant (object_path (commit_name q))) ≡ true
-is_commit q named = ap (is_at q) (commit_instant-named q named) ∙ nat_eq-self q
+is_commit q named = ap (is_at q) (commit_of_path (object_path (commit_name q)) q named refl) ∙ eq-eqb q q refl
 
 -- ---- the instants that the names of a folder tell
 

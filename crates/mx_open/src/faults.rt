@@ -8,7 +8,8 @@ ghost use Rattle.mx_open.specs.Deciding.{IsContext, IsFine, IsLeastOther, IsRead
 use crate::context::Context;
 use crate::held::Held;
 use crate::objects::is_fine;
-use mx_base::{Instant, MetadataActionKind, ObjectName, Path};
+use mx_base::{Instant, Path};
+use mx_folder::delta_name;
 use mx_meta::{DeltaMeta, MetaError};
 use std::alloc::{AllocError, Global};
 
@@ -83,12 +84,7 @@ fn commit_missing(
 ) -> Result<Option<Path>, AllocError>
     ensures { IfOk result (IsLeastOther (MeetsCommit held.now context.now at)) }
 {
-    let delta = ObjectName::Metadata {
-        at,
-        kind: MetadataActionKind::DeltaCommit,
-        completed: true,
-    };
-    let delta = delta.path(alloc)?;
+    let delta = delta_name(at, true).path(alloc)?;
     match held.get(&delta) {
         Some(bytes) => log_missing(alloc, held, context, at, bytes.as_slice()),
         None => Ok(Some(delta)),

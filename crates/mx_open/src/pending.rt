@@ -16,7 +16,7 @@ ghost use Rattle.mx_open.specs.Leaving.{AreLogged, AreNamesOf, PicksNext, begins
 
 use crate::held::Held;
 use mx_base::{ActionKind, ActionState, Instant, ObjectName, Path};
-use mx_folder::Pending;
+use mx_folder::{Pending, commit_name};
 use mx_lists::Listed;
 use mx_meta::{MetaError, PathList};
 use std::alloc::{AllocError, Global};
@@ -262,12 +262,7 @@ pub(crate) fn copied(alloc: Global, paths: &[Path]) -> Result<Listed<Path>, Allo
 fn files_at(alloc: Global, held: &Held, at: Instant) -> Result<Listed<Path>, AllocError>
     ensures { IfOk result (λ paths. paths ≡ spec.files_at held.now at) }
 {
-    let name = ObjectName::Timeline {
-        at,
-        kind: ActionKind::Commit,
-        state: ActionState::Inflight,
-    };
-    let path = name.path(alloc)?;
+    let path = commit_name(at, ActionState::Inflight).path(alloc)?;
     match held.get(&path) {
         Some(bytes) => files_in(alloc, bytes.as_slice()),
         None => Ok(Listed::new(alloc)),

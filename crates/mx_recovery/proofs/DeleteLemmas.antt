@@ -1,45 +1,16 @@
 -- Deletes of paths in turn, and what they leave.
-use Rattle.std.proofs.Common.{◌≡◌, ◌≢◌, ◌⊎◌, inl, inr, ⊎_elim, ℕ, zero, suc, arith, Bool, true, false, cond, List, [], ◌∷◌, ◌++◌, Option, Some, None, is_some, refl, sym, ◌∙◌, ap, subst}
+use Rattle.std.proofs.Common.{◌≡◌, ◌≢◌, ◌⊎◌, inl, inr, ⊎_elim, ℕ, Bool, true, false, cond, List, [], ◌∷◌, ◌++◌, None, is_some, refl, sym, ◌∙◌, ap, subst}
 use Rattle.std.specs.Prelude.{Contains}
 use Rattle.std.specs.FinMap as finmap
 use Rattle.mx_store.specs.declared.change.Change.{Change}
 use Rattle.mx_store.specs.declared.change.Change.TheVariants.{Delete}
-use Rattle.mx_store.specs.Objects.{Objects, at_path, apply, after_all}
+use Rattle.mx_store.specs.Objects.{Objects, at_path, after_all}
 use Rattle.mx_store.proofs.Paths.{cases_path, at_left, at_removed}
 use Rattle.mx_folder.specs.Pending.{deletes}
-
--- ---- elements of lists
-
-pub among_head : {X : Type 0} (x : X) (xs : List X) → Contains (x ∷ xs) x
-among_head x xs = (0, omega arith, refl)
-
-pub among_tail : {X : Type 0} (x y : X) (xs : List X) → Contains xs x → Contains (y ∷ xs) x
-among_tail x y xs c = (suc c.0, omega (arith, c.1), c.2)
-
-pub among_cases : {X : Type 0} (x y : X) (xs : List X) → Contains (y ∷ xs) x → (y ≡ x) ⊎ Contains xs x
-among_cases x y xs (zero, within, is) = inl is
-among_cases x y xs (suc k, within, is) = inr (k, omega (arith, within), is)
-
-pub among_none : {X : Type 0} (x : X) → Contains [] x → ⊥
-among_none x c = absurd (omega (arith, c.1))
-
-pub among_front : {X : Type 0} (x : X) (xs ys : List X) → Contains xs x → Contains (xs ++ ys) x
-among_front x [] ys c = absurd (among_none x c)
-among_front x (z ∷ xs) ys c = step (among_cases x z xs c) (among_front x xs ys)
-  where
-    step : (z ≡ x) ⊎ Contains xs x → (Contains xs x → Contains (xs ++ ys) x) → Contains (z ∷ (xs ++ ys)) x
-    step (inl here) further = subst (λ y. Contains (z ∷ (xs ++ ys)) y) here (among_head z (xs ++ ys))
-    step (inr there) further = among_tail x z (xs ++ ys) (further there)
-
-pub among_back : {X : Type 0} (x : X) (xs ys : List X) → Contains ys x → Contains (xs ++ ys) x
-among_back x [] ys c = c
-among_back x (z ∷ xs) ys c = among_tail x z (xs ++ ys) (among_back x xs ys c)
+use Rattle.mx_folder.proofs.ElementLemmas.{among_here, among_later, among_cases, among_none}
+use Rattle.mx_folder.proofs.NamedLemmas.{none_from}
 
 -- ---- deletes of two lists
-
-pub after_all-append : (o : Objects) (a b : List Change) → after_all o (a ++ b) ≡ after_all (after_all o a) b
-after_all-append o [] b = refl
-after_all-append o (c ∷ a) b = after_all-append (apply c o) a b
 
 pub deletes-append : (o : Objects) (xs ys : List (List ℕ)) → deletes o (xs ++ ys) ≡ deletes o xs ++ deletes (after_all o (deletes o xs)) ys
 deletes-append o [] ys = refl
@@ -57,10 +28,6 @@ deletes-append o (x ∷ xs) ys = step (is_some (at_path o x)) (deletes-append (f
 pub removed_none : (o : Objects) (x q : List ℕ) → at_path o q ≡ None → at_path (finmap.remove o x) q ≡ None
 removed_none o x q none = ⊎_elim (λ (same : q ≡ x). ap (at_path (finmap.remove o x)) same ∙ at_removed o x) (λ (other : q ≢ x). at_left o x q other ∙ none) (cases_path q x)
 
-some_or_none : (x : Option (List ℕ)) → is_some x ≡ false → x ≡ None
-some_or_none None is = refl
-some_or_none (Some x) is = absurd (cc is)
-
 pub deletes_none : (o : Objects) (paths : List (List ℕ)) (q : List ℕ) → at_path o q ≡ None → at_path (after_all o (deletes o paths)) q ≡ None
 deletes_none o [] q none = none
 deletes_none o (x ∷ xs) q none = step (is_some (at_path o x)) (deletes_none (finmap.remove o x) xs q (removed_none o x q none)) (deletes_none o xs q none)
@@ -74,8 +41,8 @@ deletes_none o (x ∷ xs) q none = step (is_some (at_path o x)) (deletes_none (f
 pub deletes_left : (o : Objects) (paths : List (List ℕ)) (q : List ℕ) → (Contains paths q → ⊥) → at_path (after_all o (deletes o paths)) q ≡ at_path o q
 deletes_left o [] q out = refl
 deletes_left o (x ∷ xs) q out =
-    let later : Contains xs q → ⊥ = λ c. out (among_tail q x xs c) in
-    let other : q ≢ x = λ same. out (subst (λ (y : List ℕ). Contains (x ∷ xs) y) (sym same) (among_head x xs)) in
+    let later : Contains xs q → ⊥ = λ c. out (among_later q x xs c) in
+    let other : q ≢ x = λ same. out (subst (λ (y : List ℕ). Contains (x ∷ xs) y) (sym same) (among_here x xs)) in
     step (is_some (at_path o x)) (deletes_left (finmap.remove o x) xs q later ∙ at_left o x q other) (deletes_left o xs q later)
   where
     step : (b : Bool) → at_path (after_all (finmap.remove o x) (deletes (finmap.remove o x) xs)) q ≡ at_path o q → at_path (after_all o (deletes o xs)) q ≡ at_path o q
@@ -92,5 +59,5 @@ deletes_gone o (x ∷ xs) q c = step (is_some (at_path o x)) refl (among_cases q
         → at_path (after_all o (cond b (Delete x ∷ deletes (finmap.remove o x) xs) (deletes o xs))) q ≡ None
     step true is (inl here) gone kept = deletes_none (finmap.remove o x) xs q (ap (at_path (finmap.remove o x)) (sym here) ∙ at_removed o x)
     step true is (inr there) gone kept = gone there
-    step false is (inl here) gone kept = deletes_none o xs q (ap (at_path o) (sym here) ∙ some_or_none (at_path o x) is)
+    step false is (inl here) gone kept = deletes_none o xs q (ap (at_path o) (sym here) ∙ none_from (at_path o x) (λ stands. absurd (cc (sym is ∙ stands))))
     step false is (inr there) gone kept = kept there

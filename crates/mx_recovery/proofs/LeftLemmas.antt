@@ -4,7 +4,7 @@ use Rattle.std.specs.Prelude.{All, Contains, nat_lt, not, ◌&&◌, ◌||◌, op
 use Rattle.std.specs.FinMap as finmap
 use Rattle.std.specs.List.{flat_map}
 use Rattle.std.specs.Option.{option_map_or}
-use Rattle.std.proofs.lemmas.List.Elements.{All-cons, All-head, All-tail, All-append, All-contains, All-weaker}
+use Rattle.std.proofs.lemmas.List.Elements.{All-cons, All-head, All-tail, All-append, All-contains, All-weaker, Contains-append_left, Contains-append_right}
 use Rattle.mx_base.specs.Objects.{IsObjectName, is_object_name, is_instant, object_path}
 use Rattle.mx_base.specs.declared.object_name.ObjectName.{ObjectName}
 use Rattle.mx_base.specs.declared.object_name.ObjectName.TheVariants.{Config, Log}
@@ -24,13 +24,14 @@ use Rattle.mx_folder.specs.Reading.{IsLogOf, IsDataFileOf, Reads}
 use Rattle.mx_folder.specs.Steps.{IsLoose, IsMadeBefore}
 use Rattle.mx_folder.specs.declared.pending.Pending.{Pending}
 use Rattle.mx_folder.proofs.LooseLemmas.{loose_keeps}
+use Rattle.mx_folder.proofs.ElementLemmas.{among_here, among_later, among_cases, among_none}
 use Rattle.mx_folder.proofs.NamedLemmas.{object_at-same, object_at-stands, object_at-some, object_at-is, is_some_same}
 use Rattle.mx_folder.proofs.PendingLemmas.{pending_loose, pending_file_loose, hidden_object}
 use Rattle.mx_world.specs.Mirror.{IsNoConfig}
 use Rattle.mx_world.specs.State.{MayChange}
 use Rattle.mx_world.specs.Turns.{MayChangeInTurn}
 use Rattle.mx_recovery.specs.Recovering.{IsSettled}
-use Rattle.mx_recovery.proofs.DeleteLemmas.{among_head, among_tail, among_cases, among_none, among_front, among_back, deletes_none, deletes_left, deletes_gone}
+use Rattle.mx_recovery.proofs.DeleteLemmas.{deletes_none, deletes_left, deletes_gone}
 
 -- ---- what may be taken away
 
@@ -160,17 +161,17 @@ no_config o paths may = All-weaker (MayGo o) IsNoConfig (λ path go. (loose_path
 inflight_among : (left : Pending) → Contains (left_by left) (object_path (inflight_name left.at))
 inflight_among left =
     let path = object_path (inflight_name left.at) in
-    among_back path left.logs (deltas_on left)
-    (among_tail path (object_path (delta_name left.at)) (object_path (delta_mark left.at) ∷ files_on left)
-    (among_tail path (object_path (delta_mark left.at)) (files_on left) (among_back path left.files (last_two left) (among_head path (object_path (requested_name left.at) ∷ [])))))
+    Contains-append_right left.logs (deltas_on left) path
+    (among_later path (object_path (delta_name left.at)) (object_path (delta_mark left.at) ∷ files_on left)
+    (among_later path (object_path (delta_mark left.at)) (files_on left) (Contains-append_right left.files (last_two left) path (among_here path (object_path (requested_name left.at) ∷ [])))))
 
 requested_among : (left : Pending) → Contains (left_by left) (object_path (requested_name left.at))
 requested_among left =
     let path = object_path (requested_name left.at) in
-    among_back path left.logs (deltas_on left)
-    (among_tail path (object_path (delta_name left.at)) (object_path (delta_mark left.at) ∷ files_on left)
-    (among_tail path (object_path (delta_mark left.at)) (files_on left)
-    (among_back path left.files (last_two left) (among_tail path (object_path (inflight_name left.at)) (object_path (requested_name left.at) ∷ []) (among_head path [])))))
+    Contains-append_right left.logs (deltas_on left) path
+    (among_later path (object_path (delta_name left.at)) (object_path (delta_mark left.at) ∷ files_on left)
+    (among_later path (object_path (delta_mark left.at)) (files_on left)
+    (Contains-append_right left.files (last_two left) path (among_later path (object_path (inflight_name left.at)) (object_path (requested_name left.at) ∷ []) (among_here path [])))))
 
 abbrev AreBoth : List (List ℕ) → ℕ → Type 0
 AreBoth paths at = Contains paths (object_path (inflight_name at)) × Contains paths (object_path (requested_name at))
@@ -181,10 +182,10 @@ left_among (left ∷ ps) at among = step (among_cases at left.at (instants_of ps
   where
     step : (left.at ≡ at) ⊎ Contains (instants_of ps) at → (Contains (instants_of ps) at → AreBoth (flat_map left_by ps) at) → AreBoth (left_by left ++ flat_map left_by ps) at
     step (inl here) further = subst (AreBoth (left_by left ++ flat_map left_by ps)) here
-        (among_front (object_path (inflight_name left.at)) (left_by left) (flat_map left_by ps) (inflight_among left), among_front (object_path (requested_name left.at)) (left_by left) (flat_map left_by ps) (requested_among left))
+        (Contains-append_left (left_by left) (flat_map left_by ps) (object_path (inflight_name left.at)) (inflight_among left), Contains-append_left (left_by left) (flat_map left_by ps) (object_path (requested_name left.at)) (requested_among left))
     step (inr there) further =
         let both = further there in
-        (among_back (object_path (inflight_name at)) (left_by left) (flat_map left_by ps) both.0, among_back (object_path (requested_name at)) (left_by left) (flat_map left_by ps) both.1)
+        (Contains-append_right (left_by left) (flat_map left_by ps) (object_path (inflight_name at)) both.0, Contains-append_right (left_by left) (flat_map left_by ps) (object_path (requested_name at)) both.1)
 
 module _ (o : Objects) (opens : IsOpenable o) (pendings : List Pending) (are : ArePending o pendings) where
   abbrev paths : List (List ℕ)

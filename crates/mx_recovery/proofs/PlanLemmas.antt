@@ -8,11 +8,9 @@ use Rattle.std.specs.FinMap.{contains_key-keys}
 use Rattle.std.specs.List.{flat_map, list_any}
 use Rattle.std.specs.Ordering.{nat_cmp, eq_by_cmp}
 use Rattle.std.proofs.lemmas.List.{take_all, take_more}
-use Rattle.std.proofs.lemmas.List.Elements.{All-contains, All-weaker}
-use Rattle.mx_base.specs.Objects.{IsObjectName, object_path}
-use Rattle.mx_base.specs.declared.object_name.ObjectName.{ObjectName}
+use Rattle.std.proofs.lemmas.List.Elements.{All-contains, All-weaker, Contains-append_left, Contains-push}
+use Rattle.mx_base.specs.Objects.{object_path}
 use Rattle.mx_base.specs.declared.object_name.ObjectName.TheVariants.{Config}
-use Rattle.mx_base.proofs.ObjectLemmas.{object_path-injective}
 use Rattle.mx_meta.proofs.JsonLemmas.{named_more}
 use Rattle.mx_lists.proofs.TreeLemmas.{turned}
 use Rattle.mx_props.specs.Config.{config_text}
@@ -25,28 +23,19 @@ use Rattle.mx_folder.specs.Named.{is_hidden}
 use Rattle.mx_folder.specs.Folder.{IsOpenable}
 use Rattle.mx_folder.specs.Pending.{deletes, left_by, recovery_changes}
 use Rattle.mx_folder.specs.declared.pending.Pending.{Pending}
-use Rattle.mx_folder.proofs.ListedLemmas.{data_outside}
-use Rattle.mx_folder.proofs.NamedLemmas.{object_at-is}
-use Rattle.mx_folder.proofs.PendingLemmas.{hidden_object}
-use Rattle.mx_world.specs.Instants.{NamesInstant, instant_of}
+use Rattle.mx_folder.proofs.ElementLemmas.{among_here, among_later, among_cases, among_filter}
+use Rattle.mx_folder.proofs.NamedLemmas.{object_at-is, after_all-append}
+use Rattle.mx_groups.proofs.GroupLemmas.{max_cases}
+use Rattle.mx_world.specs.Instants.{NamesInstant}
 use Rattle.mx_world.specs.Mirror.{IsNoConfig}
 use Rattle.mx_open.specs.Opening.{IsFolderOf}
 use Rattle.mx_open.specs.declared.folder.Folder.{Folder}
 use Rattle.mx_recovery.specs.Recovering.{IsLast, NamedIn}
 use Rattle.mx_recovery.specs.Planning.{IsGreatestOf, GoesOver, IsLastOf, stands_among, AreStanding}
-use Rattle.mx_recovery.proofs.DeleteLemmas.{among_none, among_head, among_tail, among_cases, among_front, deletes-append, after_all-append}
+use Rattle.mx_recovery.proofs.DeleteLemmas.{deletes-append}
 use Rattle.mx_recovery.proofs.LeftLemmas.{all_may_go, no_config}
 
--- ---- the instant that a path names
-
-pub named_instant : (path : List ℕ) (name : ObjectName) → IsObjectName name → path ≡ object_path name → (at : ℕ) → NamesInstant path at → instant_of name ≡ Some at
-named_instant path name named is at (inl (other, other_named, other_is, dated)) = ap instant_of (object_path-injective name other named other_named (sym is ∙ other_is)) ∙ dated
-named_instant path name named is at (inr (file, stored, dated)) = absurd (cc (sym (data_outside path file stored) ∙ ap is_hidden is ∙ hidden_object name))
-
 -- ---- the greatest instant
-
-max_cases : (a b : ℕ) → (max a b ≡ a) ⊎ (max a b ≡ b)
-max_cases a b = grind arith
 
 abbrev UptoAt : ℕ → List ℕ → Type 0
 UptoAt greatest path = (at : ℕ) → NamesInstant path at → at ≤ greatest
@@ -65,7 +54,7 @@ greatest_next start paths i path greatest after None within is before named only
     earlier : (paths : List (List ℕ)) (i : ℕ) (path : List ℕ) → i < length paths → (start greatest : ℕ) → (greatest ≡ start) ⊎ ((other : List ℕ) × Contains (take i paths) other × NamesInstant other greatest)
         → (greatest ≡ start) ⊎ ((other : List ℕ) × Contains (take (i + 1) paths) other × NamesInstant other greatest)
     earlier paths i path within start greatest (inl same) = inl same
-    earlier paths i path within start greatest (inr (other, among, names)) = inr (other, subst (λ (ps : List (List ℕ)). Contains ps other) (sym (take_more paths i path within)) (among_front other (take i paths) _ among), names)
+    earlier paths i path within start greatest (inr (other, among, names)) = inr (other, subst (λ (ps : List (List ℕ)). Contains ps other) (sym (take_more paths i path within)) (Contains-append_left (take i paths) _ other among), names)
 greatest_next start paths i path greatest after (Some n) within is before named only same = record {
   least = let low = before.least in omega (arith, low, same);
   upto =
@@ -76,35 +65,19 @@ greatest_next start paths i path greatest after (Some n) within is before named 
 }
   where
     last : Contains (take (i + 1) paths) path
-    last = subst (λ (ps : List (List ℕ)). Contains ps path) (sym (take_more paths i path within ∙ ap (λ (y : List ℕ). take i paths ++ y ∷ []) (sym is))) (at_end (take i paths))
-      where
-        at_end : (xs : List (List ℕ)) → Contains (xs ++ path ∷ []) path
-        at_end [] = among_head path []
-        at_end (x ∷ xs) = among_tail path x (xs ++ path ∷ []) (at_end xs)
+    last = subst (λ (ps : List (List ℕ)). Contains ps path) (sym (take_more paths i path within ∙ ap (λ (y : List ℕ). take i paths ++ y ∷ []) (sym is))) (Contains-push (take i paths) path)
 
     from : (max greatest n ≡ greatest) ⊎ (max greatest n ≡ n) → (greatest ≡ start) ⊎ ((other : List ℕ) × Contains (take i paths) other × NamesInstant other greatest)
         → (after ≡ start) ⊎ ((other : List ℕ) × Contains (take (i + 1) paths) other × NamesInstant other after)
     from (inr newer) before = inr (path, last, subst (NamesInstant path) (sym (same ∙ newer)) named)
     from (inl older) (inl first) = inl (same ∙ older ∙ first)
     from (inl older) (inr (other, among, names)) =
-        inr (other, subst (λ (ps : List (List ℕ)). Contains ps other) (sym (take_more paths i path within)) (among_front other (take i paths) _ among), subst (NamesInstant other) (sym (same ∙ older)) names)
+        inr (other, subst (λ (ps : List (List ℕ)). Contains ps other) (sym (take_more paths i path within)) (Contains-append_left (take i paths) _ other among), subst (NamesInstant other) (sym (same ∙ older)) names)
 
 pub greatest_all : (start : ℕ) (paths : List (List ℕ)) (i greatest : ℕ) → length paths ≤ i → IsGreatestOf start (take i paths) greatest → IsGreatestOf start paths greatest
 greatest_all start paths i greatest whole is = subst (λ (ps : List (List ℕ)). IsGreatestOf start ps greatest) (take_all i paths whole) is
 
 -- ---- the names and the others are all paths
-
-in_filter : (p : List ℕ → Bool) (xs : List (List ℕ)) (x : List ℕ) → Contains xs x → p x ≡ true → Contains (filter p xs) x
-in_filter p [] x among passes = absurd (among_none x among)
-in_filter p (y ∷ xs) x among passes = step (among_cases x y xs among) (λ there. in_filter p xs x there passes)
-  where
-    step : (y ≡ x) ⊎ Contains xs x → (Contains xs x → Contains (filter p xs) x) → Contains (cond (p y) (y ∷ filter p xs) (filter p xs)) x
-    step (inl here) further = subst (λ (b : Bool). Contains (cond b (y ∷ filter p xs) (filter p xs)) x) (sym (ap p here ∙ passes)) (subst (Contains (y ∷ filter p xs)) here (among_head y (filter p xs)))
-    step (inr there) further = from (p y) (further there)
-      where
-        from : (b : Bool) → Contains (filter p xs) x → Contains (cond b (y ∷ filter p xs) (filter p xs)) x
-        from true c = among_tail x y (filter p xs) c
-        from false c = c
 
 of_filter : (p : List ℕ → Bool) (xs : List (List ℕ)) (x : List ℕ) → Contains (filter p xs) x → Contains xs x
 of_filter p [] x among = among
@@ -114,9 +87,9 @@ of_filter p (y ∷ xs) x among = step (p y) (of_filter p xs x) among
     step true further c = from (among_cases x y (filter p xs) c)
       where
         from : (y ≡ x) ⊎ Contains (filter p xs) x → Contains (y ∷ xs) x
-        from (inl here) = subst (Contains (y ∷ xs)) here (among_head y xs)
-        from (inr there) = among_tail x y xs (further there)
-    step false further c = among_tail x y xs (further c)
+        from (inl here) = subst (Contains (y ∷ xs)) here (among_here y xs)
+        from (inr there) = among_later x y xs (further there)
+    step false further c = among_later x y xs (further c)
 
 any_parted : (p h : List ℕ → Bool) (xs : List (List ℕ)) → (list_any p (filter h xs) || list_any p (filter (λ x. not (h x)) xs)) ≡ list_any p xs
 any_parted p h [] = refl
@@ -155,8 +128,8 @@ module _ (o : Objects) (f : Folder) (is : IsFolderOf o f) where
   either_list q stands = from (is_hidden q) refl
     where
       from : (b : Bool) → is_hidden q ≡ b → Contains f.names q ⊎ Contains f.others q
-      from true hidden = inl (subst (λ (ps : List (List ℕ)). Contains ps q) (sym is.names) (in_filter is_hidden (finmap.keys o) q (in_keys o q stands) hidden))
-      from false outer = inr (subst (λ (ps : List (List ℕ)). Contains ps q) (sym is.others) (in_filter (λ path. not (is_hidden path)) (finmap.keys o) q (in_keys o q stands) (ap not outer)))
+      from true hidden = inl (subst (λ (ps : List (List ℕ)). Contains ps q) (sym is.names) (among_filter is_hidden (finmap.keys o) q (in_keys o q stands) hidden))
+      from false outer = inr (subst (λ (ps : List (List ℕ)). Contains ps q) (sym is.others) (among_filter (λ path. not (is_hidden path)) (finmap.keys o) q (in_keys o q stands) (ap not outer)))
 
   name_stands : (q : List ℕ) → Contains f.names q → IsSome (at_path o q)
   name_stands q among = stands_from_keys o q (of_filter is_hidden (finmap.keys o) q (subst (λ (ps : List (List ℕ)). Contains ps q) is.names among))

@@ -7,6 +7,7 @@ use Rattle.mx_store.specs.declared.change.Change.{Change}
 use Rattle.mx_store.specs.declared.change.Change.TheVariants.{Create, Put, Delete}
 use Rattle.mx_store.specs.Calls.{with_change}
 use Rattle.mx_store.specs.Objects.{Objects, objects_of, after_all}
+use Rattle.mx_folder.proofs.NamedLemmas.{after_all-append}
 use Rattle.mx_folder.specs.Pending.{left_by, recovery_changes}
 use Rattle.mx_world.specs.declared.error.ChangeError.{ChangeError}
 use Rattle.mx_world.specs.declared.error.ChangeError.TheVariants.{InDoubt, Changed, StoreFault, NoMemory}
@@ -18,7 +19,6 @@ use Rattle.mx_recovery.specs.Recovering.{Opens, IsOpened, IsOpenedUntold, IsFron
 use Rattle.mx_recovery.specs.Planning.{IsDeletion, IsPlanOf, why_of}
 use Rattle.mx_recovery.specs.declared.error.OpenFailed.{OpenFailed}
 use Rattle.mx_recovery.specs.declared.plan.Plan.{Plan}
-use Rattle.mx_recovery.proofs.DeleteLemmas.{after_all-append}
 use Rattle.mx_recovery.proofs.LeftLemmas.{all_may_go, may_in_turn, settled_by}
 
 -- ---- deletes are plain

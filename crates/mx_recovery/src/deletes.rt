@@ -9,7 +9,8 @@ ghost use Rattle.mx_world.specs.Mirror.{IsNoConfig};
 ghost use Rattle.mx_store.specs.Objects.{Objects, after_all};
 ghost use Rattle.mx_recovery.specs.Planning.{AreStanding, IsDeletion, stands_among};
 
-use mx_base::{ActionKind, ActionState, Instant, MetadataActionKind, ObjectName, Path};
+use mx_base::{ActionState, Path};
+use mx_folder::{commit_name, delta_name};
 use mx_lists::Listed;
 use mx_open::Pending;
 use mx_store::Change;
@@ -33,11 +34,11 @@ fn add_left(alloc: Global, paths: &mut Listed<Path>, left: &Pending) -> Result<(
 {
     let at = left.at;
     add_all(paths, left.logs.as_slice())?;
-    paths.push(deltas(at, true).path(alloc)?)?;
-    paths.push(deltas(at, false).path(alloc)?)?;
+    paths.push(delta_name(at, true).path(alloc)?)?;
+    paths.push(delta_name(at, false).path(alloc)?)?;
     add_all(paths, left.files.as_slice())?;
-    paths.push(commit(at, ActionState::Inflight).path(alloc)?)?;
-    paths.push(commit(at, ActionState::Requested).path(alloc)?)?;
+    paths.push(commit_name(at, ActionState::Inflight).path(alloc)?)?;
+    paths.push(commit_name(at, ActionState::Requested).path(alloc)?)?;
     Ok(())
 }
 
@@ -48,26 +49,6 @@ fn add_all(paths: &mut Listed<Path>, more: &[Path]) -> Result<(), AllocError>
         paths.push(path.clone()?)?;
     }
     Ok(())
-}
-
-fn commit(at: Instant, state: ActionState) -> ObjectName
-    ensures { result ≡ ObjectName.Timeline at ActionKind.Commit state }
-{
-    ObjectName::Timeline {
-        at,
-        kind: ActionKind::Commit,
-        state,
-    }
-}
-
-fn deltas(at: Instant, completed: bool) -> ObjectName
-    ensures { result ≡ ObjectName.Metadata at MetadataActionKind.DeltaCommit completed }
-{
-    ObjectName::Metadata {
-        at,
-        kind: MetadataActionKind::DeltaCommit,
-        completed,
-    }
 }
 
 /// The paths of these names and of the others.

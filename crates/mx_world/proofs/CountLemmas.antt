@@ -1,6 +1,6 @@
 -- The instants of the actions whose objects stand.
 use Rattle.std.proofs.Common.{◌≡◌, ◌↔◌, ◌⊎◌, inl, inr, ⊎_elim, ℕ, arith, Bool, true, false, cond, ◌&&◌, List, [], ◌∷◌, ◌++◌, map, Option, Some, None, IsSome, is_some, refl, sym, ◌∙◌, ap, subst}
-use Rattle.std.specs.Prelude.{Contains, IfOk, Result, Ok, Err, unwrap_or}
+use Rattle.std.specs.Prelude.{Contains, IfOk, Result, Ok, Err}
 use Rattle.std.specs.BTreeSet.{BTreeSet, contains}
 use Rattle.std.specs.Cmp.{nat_cmp_total}
 use Rattle.std.specs.Cmp.Lexicographic.{nat_list_cmp_total}
@@ -8,6 +8,7 @@ use Rattle.std.specs.Ordering.{nat_cmp, eq_by_cmp}
 use Rattle.std.proofs.lemmas.Bool.{and_parts}
 use Rattle.std.proofs.lemmas.List.Elements.{Contains-append_left, Contains-push, Contains-push_cases}
 use Rattle.std.proofs.lemmas.Map.Lookups.{exact_unsigned, exact_bytes}
+use Rattle.std.proofs.lemmas.Option.{none-some, same_Some}
 use Rattle.std.proofs.lemmas.Map.Views.{btree_set_contains_iff}
 use Rattle.mx_base.specs.Objects.{object_path}
 use Rattle.mx_base.specs.declared.object_name.ObjectName.{ObjectName}
@@ -21,14 +22,6 @@ use Rattle.mx_world.specs.declared.mirror.Mirror.{Mirror}
 use Rattle.mx_world.specs.Instants.{HasAction, CountsInstants, IsOfAction, HasActionsOf, HasActionToo, CountsActionsOf}
 use Rattle.mx_world.specs.Mirror.{IsMirrorOf}
 use Rattle.mx_world.proofs.MirrorLemmas.{same_number, number_same}
-
--- ---- the instant of a path
-
-same_some : (a b : ℕ) → ◌≡◌ {A = Option ℕ} (Some a) (Some b) → a ≡ b
-same_some a b same = ap (λ (x : Option ℕ). unwrap_or x a) same
-
-some_none : (a : ℕ) → ◌≡◌ {A = Option ℕ} None (Some a) → ⊥
-some_none a same = absurd (cc same)
 
 -- ---- one path more
 
@@ -46,14 +39,14 @@ too_some path at found old new is here only updates q = (to (eq_by_cmp nat_cmp a
 
     from : (contains nat_cmp old q ≡ true) ⊎ IsOfAction path q → contains nat_cmp new q ≡ true
     from (inl had) = updates q ∙ always (eq_by_cmp nat_cmp at q) (contains nat_cmp old q) had
-    from (inr action) = updates q ∙ ap (λ (b : Bool). cond b true (contains nat_cmp old q)) (ap (eq_by_cmp nat_cmp at) (sym (same_some at q (sym is ∙ only q action))) ∙ number_same at)
+    from (inr action) = updates q ∙ ap (λ (b : Bool). cond b true (contains nat_cmp old q)) (ap (eq_by_cmp nat_cmp at) (sym (same_Some at q (sym is ∙ only q action))) ∙ number_same at)
 
 pub too_none : (path : List ℕ) (found : Option ℕ) (old : BTreeSet ℕ) → found ≡ None → ((a : ℕ) → IsOfAction path a → found ≡ Some a) → HasActionToo path old old
 too_none path found old is only q = (λ has. inl has, from)
   where
     from : (contains nat_cmp old q ≡ true) ⊎ IsOfAction path q → contains nat_cmp old q ≡ true
     from (inl had) = had
-    from (inr action) = absurd (some_none q (sym is ∙ only q action))
+    from (inr action) = absurd (none-some q (sym is ∙ only q action))
 
 -- ---- over all paths
 

@@ -3,6 +3,7 @@ use Rattle.std.proofs.Common.{◌≡◌, ◌≢◌, ⊎_elim, ℕ, Bool, true, f
 use Rattle.std.specs.Prelude.{filter, nat_le, IfOk, Result, Ok, Err}
 use Rattle.std.specs.Cmp.{nat_cmp_total}
 use Rattle.std.specs.List.Sorted.{IsStrictlySortedBy}
+use Rattle.std.proofs.lemmas.Bool.{and_right}
 use Rattle.std.proofs.lemmas.Map.Lookups.{exact_unsigned}
 use Rattle.std.proofs.lemmas.Map.Views.{btree_set_contains_iff}
 use Rattle.std.specs.List.{list_any}
@@ -50,11 +51,7 @@ there false x = refl
 
 -- a hidden path is among the hidden ones exactly where it is among all
 among_hidden : (q : List ℕ) (ks : List (List ℕ)) → list_any (λ k. is_hidden k && is_name_at k q) ks ≡ (is_hidden q && list_any (eq_by_cmp (slice_cmp nat_cmp) q) ks)
-among_hidden q [] = sym (none (is_hidden q))
-  where
-    none : (h : Bool) → (h && false) ≡ false
-    none true = refl
-    none false = refl
+among_hidden q [] = sym (and_right (is_hidden q) false refl)
 among_hidden q (k ∷ ks) = ap (λ b. (is_hidden k && is_name_at k q) || b) (among_hidden q ks) ∙ ⊎_elim
     (λ (same : q ≡ k).
     subst (λ (x : List ℕ). ((is_hidden x && is_name_at x q) || (is_hidden q && list_any (eq_by_cmp (slice_cmp nat_cmp) q) ks)) ≡ (is_hidden q && (eq_by_cmp (slice_cmp nat_cmp) q x || list_any (eq_by_cmp (slice_cmp nat_cmp) q) ks))) same
@@ -83,12 +80,8 @@ module _ (o : Objects) where
       (λ (other : k ≢ object_path (commit_name at)).
       by_test (λ b. b ≡ is_name_at k (object_path (commit_name at))) (is_commit_at k at)
       (λ test. absurd (other ((commit_of k at test).1)))
-      (λ test. sym (ap (λ b. is_hidden k && b) (path_other k (object_path (commit_name at)) other) ∙ and_none (is_hidden k))))
+      (λ test. sym (ap (λ b. is_hidden k && b) (path_other k (object_path (commit_name at)) other) ∙ and_right (is_hidden k) false refl)))
       (cases_path k (object_path (commit_name at)))
-    where
-      and_none : (h : Bool) → (h && false) ≡ false
-      and_none true = refl
-      and_none false = refl
 
   never : (at : ℕ) (ks : List (List ℕ)) → is_object_name (commit_name at) ≡ false → list_any (λ path. is_commit_at path at) ks ≡ false
   never at [] unnamed = refl

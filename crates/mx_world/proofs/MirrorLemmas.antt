@@ -1,5 +1,5 @@
 -- A mirror, before and after a change of one object.
-use Rattle.std.proofs.Common.{◌≡◌, ◌≢◌, ⊎_elim, cond, [], ℕ, ◌<◌, ◌^◌, Bool, true, false, not, ◌&&◌, ◌||◌, List, Option, Some, None, is_some, refl, sym, ◌∙◌, ap, subst}
+use Rattle.std.proofs.Common.{◌≡◌, ◌≢◌, ⊎_elim, cond, [], ℕ, Bool, true, false, not, ◌&&◌, ◌||◌, List, Option, Some, None, is_some, refl, sym, ◌∙◌, ap, subst}
 use Rattle.std.specs.Option.{option_map_or}
 use Rattle.std.specs.Prelude.{Result, Ok, Err, OnOk, OnErr}
 use Rattle.std.specs.Result.{is_ok, is_err}
@@ -8,30 +8,23 @@ use Rattle.std.specs.Ordering.{nat_cmp, eq_by_cmp}
 use Rattle.std.specs.Cmp.{nat_cmp_total, eq_by_cmp_equiv}
 use Rattle.std.specs.Cmp.Lexicographic.{slice_cmp}
 use Rattle.std.specs.FinMap as finmap
-use Rattle.std.proofs.lemmas.Bool.{and_parts, and_from}
-use Rattle.std.proofs.lemmas.Bool.Decides.{Decides-ltb}
-use Rattle.std.specs.Prelude.{nat_lt}
+use Rattle.std.proofs.lemmas.Bool.{and_right}
 use Rattle.std.proofs.lemmas.Map.Lookups.{exact_unsigned}
 use Rattle.std.proofs.lemmas.Map.Views.{tells_apart}
-use Rattle.mx_base.specs.Objects.{IsObjectName, is_instant, object_path}
-use Rattle.mx_base.specs.Paths.{commit_path, commit_instant}
+use Rattle.mx_base.specs.Objects.{IsObjectName, object_path}
+use Rattle.mx_base.specs.Paths.{commit_instant}
 use Rattle.mx_base.specs.declared.object_name.ObjectName.TheVariants.{Config}
-use Rattle.mx_base.proofs.PathLemmas.{IsCommitAt-commit_instant, commit_instant-commit_path}
 use Rattle.mx_props.specs.Config.{config_text}
 use Rattle.mx_store.specs.Objects.{Objects, at_path}
 use Rattle.mx_store.proofs.Paths.{cases_path, path_same, path_other, at_other, at_same, at_left, at_removed}
 use Rattle.mx_folder.specs.Named.{object_at, commit_name, is_hidden}
-use Rattle.mx_folder.proofs.NamedLemmas.{object_at-same, object_at-is, object_at-none}
+use Rattle.mx_folder.proofs.NamedLemmas.{object_at-same, object_at-is, object_at-none, path_of_commit, commit_of_path}
 use Rattle.mx_groups.specs.Groups.{AreGroupsOf}
 use Rattle.mx_groups.proofs.NoteLemmas.{groups_same}
 use Rattle.mx_world.specs.declared.mirror.Mirror.{Mirror}
 use Rattle.mx_world.specs.Mirror.{IsMirrorOf, IsNoConfig, is_commit_at, is_name_at}
 
 -- ---- which commit a path is of
-
-pub commit_path-is : (at : ℕ) → commit_path at ≡ object_path (commit_name at)
-unfolding commit_path object_path
-commit_path-is at = refl
 
 pub same_number : (a b : ℕ) → eq_by_cmp nat_cmp a b ≡ true → a ≡ b
 same_number a b is = tells_apart exact_unsigned a b is
@@ -43,18 +36,11 @@ is_of : (path : List ℕ) (at : ℕ) (found : Option ℕ) → commit_instant pat
 is_of path at None is test = absurd (cc test)
 is_of path at (Some n) is test = is ∙ ap (λ (x : ℕ). Some x) (same_number n at test)
 
-small_test : (at : ℕ) → 0 < at → at < 10 ^ 17 → IsObjectName (commit_name at)
-small_test at positive small = and_from (nat_lt 0 at) (is_instant at) ((Decides-ltb 0 at).1 positive) ((Decides-ltb at (10 ^ 17)).1 small)
-
 pub commit_of : (path : List ℕ) (at : ℕ) → is_commit_at path at ≡ true → IsObjectName (commit_name at) × (path ≡ object_path (commit_name at))
-commit_of path at test =
-    let found = IsCommitAt-commit_instant path at (is_of path at (commit_instant path) refl test) in (small_test at found.positive found.small, found.is ∙ commit_path-is at)
+commit_of path at test = path_of_commit path at (is_of path at (commit_instant path) refl test)
 
 pub of_commit : (path : List ℕ) (at : ℕ) → IsObjectName (commit_name at) → path ≡ object_path (commit_name at) → is_commit_at path at ≡ true
-of_commit path at named is =
-    let parts = and_parts (nat_lt 0 at) (is_instant at) named in
-    let read : commit_instant path ≡ Some at = ap commit_instant (is ∙ sym (commit_path-is at)) ∙ commit_instant-commit_path at ((Decides-ltb 0 at).0 parts.0) ((Decides-ltb at (10 ^ 17)).0 parts.1) in
-    ap (λ (x : Option ℕ). option_map_or (λ other. eq_by_cmp nat_cmp other at) x false) read ∙ number_same at
+of_commit path at named is = ap (λ (x : Option ℕ). option_map_or (λ other. eq_by_cmp nat_cmp other at) x false) (commit_of_path path at named is) ∙ number_same at
 
 -- ---- by cases of a test
 
@@ -150,15 +136,11 @@ module _ (o : Objects) (path : List ℕ) where
   names_left q = ⊎_elim
       (λ (same : q ≡ path). subst (λ (x : List ℕ). (not (eq_by_cmp (slice_cmp nat_cmp) path x) && (is_hidden x && is_some (at_path o x))) ≡ (is_hidden x && is_some (at_path (finmap.remove o path) x))) (sym same)
       (ap (λ b. not b && (is_hidden path && is_some (at_path o path))) (path_same path)
-      ∙ sym (ap (λ (x : Option (List ℕ)). is_hidden path && is_some x) (at_removed o path) ∙ and_none (is_hidden path))))
+      ∙ sym (ap (λ (x : Option (List ℕ)). is_hidden path && is_some x) (at_removed o path) ∙ and_right (is_hidden path) false refl)))
       (λ (other : q ≢ path).
       ap (λ b. not b && (is_hidden q && is_some (at_path o q))) (path_other path q (λ same. other (sym same)))
       ∙ ap (λ (x : Option (List ℕ)). is_hidden q && is_some x) (sym (at_left o path q other)))
       (cases_path q path)
-    where
-      and_none : (h : Bool) → (h && false) ≡ false
-      and_none true = refl
-      and_none false = refl
 
   pub left_mirror : (old new : Mirror) → new.config ≡ old.config
       → ((at : ℕ) → contains nat_cmp new.completed at ≡ (not (is_commit_at path at) && contains nat_cmp old.completed at))

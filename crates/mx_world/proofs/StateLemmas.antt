@@ -12,6 +12,7 @@ use Rattle.mx_store.proofs.Journal.{objects_of-push, EachSince-push}
 use Rattle.mx_store.proofs.Longer.{EachSince-now}
 use Rattle.mx_store.proofs.Paths.{cases_path, at_same, at_other, at_removed, at_left}
 use Rattle.mx_folder.specs.Folder.{IsValidTable}
+use Rattle.mx_folder.proofs.NamedLemmas.{some_or_none}
 use Rattle.mx_world.specs.declared.mirror.Mirror.{Mirror}
 use Rattle.mx_world.specs.Instants.{NamesInstant, AreUpto}
 use Rattle.mx_world.specs.Mirror.{IsMirrorOf, IsPlain}
@@ -27,10 +28,6 @@ taken_back o path bytes m absent is = mirror_same (finmap.remove (finmap.insert 
 
 -- ---- the instants of names
 
-some_none : {A : Type 0} (x : Option A) → IsSome x → x ≢ None
-some_none None h e = absurd (cc h)
-some_none (Some x) h e = absurd (cc e)
-
 upto_after : (o : Objects) (last : ℕ) (change : Change) → AreUpto last o → NamesUpto last change → AreUpto last (apply change o)
 upto_after o last (Create path bytes) upto named q at stands names = ⊎_elim
     (λ (same : q ≡ path). named at (subst (λ (x : List ℕ). NamesInstant x at) same names))
@@ -41,7 +38,7 @@ upto_after o last (Put path bytes) upto named q at stands names = ⊎_elim
     (λ (other : q ≢ path). upto q at (subst IsSome (at_other o path bytes q other) stands) names)
     (cases_path q path)
 upto_after o last (Delete path) upto named q at stands names = ⊎_elim
-    (λ (same : q ≡ path). absurd (some_none _ stands (ap (at_path (finmap.remove o path)) same ∙ at_removed o path)))
+    (λ (same : q ≡ path). absurd (some_or_none _ stands (ap (at_path (finmap.remove o path)) same ∙ at_removed o path)))
     (λ (other : q ≢ path). upto q at (subst IsSome (at_left o path q other) stands) names)
     (cases_path q path)
 
@@ -226,7 +223,7 @@ doubt_back_told (Some opening) (Some journal) m n last applied change kept back 
 not_done : (o : Objects) (change : Change) → IsPlain change → IsAllowed o change → IsDone change (at_path o (path_of change)) → ⊥
 not_done o (Create path bytes) plain absent done = absurd (cc (sym absent ∙ done))
 not_done o (Put path bytes) plain allowed done = plain
-not_done o (Delete path) plain present gone = some_none _ present gone
+not_done o (Delete path) plain present gone = some_or_none _ present gone
 
 done : (o : Objects) (change : Change) → IsPlain change → IsDone change (at_path (apply change o) (path_of change))
 done o (Create path bytes) plain = at_same o path bytes

@@ -1,14 +1,13 @@
 -- The changes of a commit, part by part: its data files, its log, and what its object names.
-use Rattle.std.proofs.Common.{◌≡◌, ◌≢◌, inl, inr, ℕ, ◌+◌, ◌^◌, ◌<◌, arith, Bool, true, false, List, [], ◌∷◌, ◌++◌, Option, Some, None, IsSome, refl, sym, ◌∙◌, ap, subst}
-use Rattle.std.specs.Prelude.{All, map, max, unwrap_or, nat_lt, ◌&&◌, ◌||◌, option_and_then, option_to_list}
+use Rattle.std.proofs.Common.{◌≡◌, ◌≢◌, inl, inr, ℕ, ◌+◌, ◌^◌, ◌<◌, arith, List, [], ◌∷◌, ◌++◌, Option, Some, None, IsSome, refl, sym, ◌∙◌, ap, subst}
+use Rattle.std.specs.Prelude.{All, map, max, unwrap_or, option_and_then, option_to_list}
 use Rattle.std.specs.FinMap as finmap
-use Rattle.std.proofs.lemmas.Bool.Decides.{nat_tests}
 use Rattle.std.proofs.lemmas.List.Elements.{All-cons, All-nil, All-head, All-tail, All-weaker}
 use Rattle.serde_json.specs.Written.{compact_text}
 use Rattle.mx_commit.specs.Written.{IsNamedFile}
 use Rattle.mx_commit.specs.declared.new_file.NewFile.{NewFile}
 use Rattle.mx_base.specs.DataFiles.{IsDataFileAt}
-use Rattle.mx_base.specs.Objects.{IsObjectName, is_instant, object_path}
+use Rattle.mx_base.specs.Objects.{IsObjectName, object_path}
 use Rattle.mx_base.specs.Paths.{data_path}
 use Rattle.mx_base.specs.declared.object_name.ObjectName.{ObjectName}
 use Rattle.mx_base.specs.declared.object_name.ObjectName.TheVariants.{Config}
@@ -17,7 +16,7 @@ use Rattle.mx_base.proofs.DataLemmas.{one_file}
 use Rattle.mx_base.proofs.NameLemmas.{length-IsFileId}
 use Rattle.mx_store.specs.declared.change.Change.{Change}
 use Rattle.mx_store.specs.declared.change.Change.TheVariants.{Create, Put, Delete}
-use Rattle.mx_store.specs.Objects.{Objects, at_path, apply, after_all}
+use Rattle.mx_store.specs.Objects.{Objects, at_path, after_all}
 use Rattle.mx_store.proofs.Paths.{at_same, at_other}
 use Rattle.mx_meta.specs.ShardFiles.{delta_meta_data}
 use Rattle.mx_base.specs.declared.entry.Entry.{Entry}
@@ -31,31 +30,12 @@ use Rattle.mx_folder.specs.Pending.{delta_mark}
 use Rattle.mx_folder.specs.Slices.{log_of}
 use Rattle.mx_folder.specs.Reading.{SpellPayloads, IsDataFileOf, IsLogOf}
 use Rattle.mx_folder.specs.Steps.{IsMadeBefore}
-use Rattle.mx_folder.proofs.NamedLemmas.{other_path, is_some_same}
+use Rattle.mx_folder.proofs.NamedLemmas.{other_path, is_some_same, is_commit_name, is_delta_name}
 use Rattle.mx_world.specs.Mirror.{IsNoConfig, IsPlain}
 use Rattle.mx_commit.specs.declared.written.Written.{Written}
 use Rattle.mx_commit.specs.Written.{data_file, new_group, AreWritten, IsSameGroup, AreApartFiles}
 use Rattle.mx_commit.specs.Changes.{files_added, logs_written, data_changes, added_changes, log_changes}
 use Rattle.mx_writer.proofs.EarlyLemmas.{IsEarly, AreApart, never_both, AreEarly, AreDistinct, Creates}
-
-both : (a b : Bool) → a ≡ true → b ≡ true → (a && b) ≡ true
-both true b h k = k
-both false b h k = absurd (cc h)
-
-either : (a b : Bool) → a ≡ true → (a || b) ≡ true
-either true b h = refl
-either false b h = absurd (cc h)
-
-lt_true : (n m : ℕ) → n < m → nat_lt n m ≡ true
-lt_true n m h = grind (arith, nat_tests)
-
-pub after_all-append : (o : Objects) (xs ys : List Change) → after_all o (xs ++ ys) ≡ after_all (after_all o xs) ys
-after_all-append o [] ys = refl
-after_all-append o (x ∷ xs) ys = after_all-append (apply x o) xs ys
-
-pub none_from : {A : Type 0} (x : Option A) → ¬ (IsSome x) → x ≡ None
-none_from None never = refl
-none_from (Some x) never = absurd (never refl)
 
 pub same_max : (last t : ℕ) → t ≡ last + 1 → max last t ≡ max t t
 same_max last t is = grind arith
@@ -116,10 +96,10 @@ creates_data t (file ∷ files) =
 
 module _ (t : ℕ) (meant : 0 < t) (small : t < 10 ^ 17) where
   pub named : IsObjectName (commit_name t)
-  named = both (nat_lt 0 t) (is_instant t) (lt_true 0 t meant) (lt_true t (10 ^ 17) small)
+  named = is_commit_name t meant small
 
   pub delta_named : IsObjectName (delta_name t)
-  delta_named = both (nat_lt 0 t || false) (is_instant t) (either (nat_lt 0 t) false (lt_true 0 t meant)) (lt_true t (10 ^ 17) small)
+  delta_named = is_delta_name t named
 
   stored : (file : NewFile) → IsNamedFile file → IsDataFileAt (data_file file t) (record { partition = file.partition; file = file.file; at = t })
   stored file is = record { partition = is.partition; group = is.id; meant = meant; small = small; is = refl }

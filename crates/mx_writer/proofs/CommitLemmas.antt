@@ -41,7 +41,7 @@ use Rattle.mx_folder.specs.Reading.{NamesItsFiles}
 use Rattle.mx_folder.specs.Steps.{MayComplete}
 use Rattle.mx_folder.proofs.BeginLemmas.{empty_object}
 use Rattle.mx_folder.proofs.CompletionLemmas.{completion_keeps}
-use Rattle.mx_folder.proofs.NamedLemmas.{object_at-is, object_at-same, object_at-stands, other_path}
+use Rattle.mx_folder.proofs.NamedLemmas.{object_at-is, object_at-same, object_at-stands, other_path, none_from, after_all-append}
 use Rattle.mx_model.specs.Listing.{files_of}
 use Rattle.mx_schema.specs.declared.column.Column.{Column}
 use Rattle.mx_world.specs.declared.mirror.Mirror.{Mirror}
@@ -55,8 +55,9 @@ use Rattle.mx_commit.specs.Made.{IsFileOf}
 use Rattle.mx_commit.specs.Changes.{files_planned, file_added, files_added, logs_written, data_changes, file_changes, added_changes, log_changes, early_changes, completion, commit_changes, ReadsBack, IsPlanOf}
 use Rattle.mx_folder.proofs.FoldLemmas.{among}
 use Rattle.mx_commit.proofs.ListingLemmas.{contains, back, logged_listed}
-use Rattle.mx_writer.proofs.EarlyLemmas.{AreApart, absent_above, named_instant, AreEarly, early_instant, may_all_early, all_completed_after, drawn_rises, AreDistinct, all_absent, allowed_absent, kept, Creates, creates_front, created_stands}
-use Rattle.mx_writer.proofs.ChangeLemmas.{after_all-append, none_from, same_max, both_early, both_apart, both_distinct, each_early_plain, early_apart, creates_data, named, delta_named, planned_all, data_early, object_apart, data_distinct, added_early, logs_all, logs_apart, log_changes_distinct, data_logs, log_after, delta_after, logs_after, paths_written}
+use Rattle.mx_world.proofs.DrawnLemmas.{named_instant}
+use Rattle.mx_writer.proofs.EarlyLemmas.{AreApart, absent_above, AreEarly, early_instant, may_all_early, all_completed_after, drawn_rises, AreDistinct, all_absent, allowed_absent, kept, Creates, creates_front, created_stands}
+use Rattle.mx_writer.proofs.ChangeLemmas.{same_max, both_early, both_apart, both_distinct, each_early_plain, early_apart, creates_data, named, delta_named, planned_all, data_early, object_apart, data_distinct, added_early, logs_all, logs_apart, log_changes_distinct, data_logs, log_after, delta_after, logs_after, paths_written}
 
 module _ (files : List NewFile) (t : ℕ) (names : All IsNamedFile files) (apart : AreApartFiles new_group files) (meant : 0 < t) (small : t < 10 ^ 17) (written : List Written) (entries : AreWritten files t written) (es : List Entry) (is_log : IsDelta (files_added files t) [] es) (meta : CommitMeta) (is_meta : IsMetaOf written meta) (reads : ReadsBack files t es meta) where
   abbrev delta_text : List ℕ

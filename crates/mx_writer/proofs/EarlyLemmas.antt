@@ -1,10 +1,10 @@
 -- The objects that a commit makes before the one that completes it.
-use Rattle.std.proofs.Common.{◌≡◌, ◌≢◌, ◌⊎◌, inl, inr, ⊎_elim, ℕ, ◌≤◌, ◌<◌, arith, Bool, true, false, List, [], ◌∷◌, ◌++◌, get_or, Option, Some, None, refl, sym, ◌∙◌, ap, subst, append_assoc}
-use Rattle.std.specs.Prelude.{unwrap_or, max, nat_eq, ◌&&◌}
+use Rattle.std.proofs.Common.{◌≡◌, ◌≢◌, ◌⊎◌, inl, inr, ⊎_elim, ℕ, ◌≤◌, ◌<◌, arith, List, [], ◌∷◌, ◌++◌, Option, Some, None, refl, sym, ◌∙◌, ap, subst, append_assoc}
+use Rattle.std.specs.Prelude.{unwrap_or}
 use Rattle.std.specs.FinMap as finmap
 use Rattle.std.proofs.lemmas.Bool.{cases_lt}
-use Rattle.std.proofs.lemmas.Bool.Decides.{nat_tests}
 use Rattle.std.proofs.lemmas.List.{append-nil}
+use Rattle.std.proofs.lemmas.Option.{same_Some}
 use Rattle.mx_base.specs.DataFiles.{IsDataFileAt}
 use Rattle.mx_base.specs.Objects.{IsObjectName, object_path}
 use Rattle.mx_base.specs.declared.data_file.DataFile.{DataFile}
@@ -15,7 +15,6 @@ use Rattle.mx_base.specs.declared.object_name.ObjectName.{ObjectName}
 use Rattle.mx_base.specs.declared.object_name.ObjectName.TheVariants.{Config, Timeline, Metadata, Base, Log}
 use Rattle.mx_base.proofs.DataLemmas.{the_file}
 use Rattle.mx_base.proofs.NameLemmas.{length-IsFileId}
-use Rattle.mx_base.proofs.ObjectLemmas.{object_path-injective}
 use Rattle.mx_store.specs.declared.change.Change.{Change}
 use Rattle.mx_store.specs.declared.change.Change.TheVariants.{Create, Put, Delete}
 use Rattle.mx_store.specs.Journal.{AreAllowed}
@@ -29,6 +28,8 @@ use Rattle.mx_folder.specs.Reading.{Reads, IsDataFileOf}
 use Rattle.mx_folder.specs.Steps.{IsLoose, MayStand, IsMadeBefore}
 use Rattle.mx_folder.proofs.LooseLemmas.{loose_keeps}
 use Rattle.mx_folder.proofs.NamedLemmas.{object_at-same, is_some_same}
+use Rattle.mx_groups.proofs.GroupLemmas.{max_left}
+use Rattle.mx_world.proofs.DrawnLemmas.{named_instant}
 use Rattle.mx_folder.proofs.ListedLemmas.{data_outside}
 use Rattle.mx_folder.proofs.PendingLemmas.{pending_loose, pending_file_loose, hidden_object}
 use Rattle.mx_world.specs.Instants.{NamesInstant, AreUpto, Requests, IsDrawnBy, instant_of}
@@ -68,16 +69,8 @@ made_instant t (Metadata at metadata.Clean completed) made = absurd made
 made_instant t (Base part shard upto kind) made = absurd made
 made_instant t (Log part shard at) made = ap (λ (n : ℕ). Some n) made
 
-same_some : (a b : ℕ) → Some a ≡ Some b → a ≡ b
-same_some a b same = ap (λ (x : Option ℕ). unwrap_or x a) same
-
--- the path of an object names the object's own instant alone
-pub named_instant : (path : List ℕ) (name : ObjectName) → IsObjectName name → path ≡ object_path name → (at : ℕ) → NamesInstant path at → instant_of name ≡ Some at
-named_instant path name named is at (inl (other, other_named, other_is, dated)) = ap instant_of (object_path-injective name other named other_named (sym is ∙ other_is)) ∙ dated
-named_instant path name named is at (inr (file, stored, dated)) = absurd (never_both path name file is stored)
-
 pub early_instant : (t : ℕ) (path bytes : List ℕ) → IsEarly t path bytes → (at : ℕ) → NamesInstant path at → at ≡ t
-early_instant t path bytes (inl (name, named, is, made, reads)) at names = same_some at t (sym (named_instant path name named is at names) ∙ made_instant t name made)
+early_instant t path bytes (inl (name, named, is, made, reads)) at names = same_Some at t (sym (named_instant path name named is at names) ∙ made_instant t name made)
 early_instant t path bytes (inr (file, stored, dated)) at (inl (name, named, is, of)) = absurd (never_both path name file is stored)
 early_instant t path bytes (inr (file, stored, dated)) at (inr (other, other_stored, other_dated)) =
     let same = the_file path file.partition file.file file.at other (length-IsFileId file.file stored.group) stored.small stored.is other_stored in
@@ -117,12 +110,9 @@ may_early journal t after path bytes early absent pending upto = record {
 
 -- ---- several of them
 
-below_max : (last at : ℕ) → last ≤ max last at
-below_max last at = grind arith
-
 pub drawn_rises : (path : List ℕ) (last after : ℕ) → IsDrawnBy path last after → last ≤ after
 drawn_rises path last after drawn = ⊎_elim
-    (λ (less : after < last). absurd (let never : (at : ℕ) → ¬ (Requests path at) = λ at requests. absurd (omega (arith, less, drawn.drawn at requests, below_max last at)) in omega (arith, less, drawn.kept never)))
+    (λ (less : after < last). absurd (let never : (at : ℕ) → ¬ (Requests path at) = λ at requests. absurd (omega (arith, less, drawn.drawn at requests, max_left last at)) in omega (arith, less, drawn.kept never)))
     (λ (rises : last ≤ after). rises)
     (cases_lt after last)
 

@@ -8,6 +8,7 @@
 mod table;
 
 use crate::table::{opened, table_of};
+use bench_input::number;
 use mx_store::{MemStore, Store};
 use std::alloc::Global;
 use std::{env, io};
@@ -38,13 +39,6 @@ fn main(rt: HostRuntime) -> io::Result<()> {
     let changes = store.journal().len();
     let reads = store.reads().len().saturating_sub(before);
     println!(rt; "commits {commits} changes {changes} reads {reads}")
-}
-
-fn number(word: Option<String>) -> u32 {
-    match word {
-        Some(word) => word.as_str().parse::<u32>().unwrap_or(1),
-        None => 1,
-    }
 }
 
 fn round(alloc: Global, store: MemStore, work: Work) -> io::Result<MemStore> {

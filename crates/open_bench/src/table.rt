@@ -1,5 +1,6 @@
 ghost use Rattle.std.specs.Prelude.{◌≡◌, ◌<◌, Some};
 
+use bench_input::bad_input;
 use mx_ask::{Reply, ask_of};
 use mx_base::Instant;
 use mx_hub::drive;
@@ -15,11 +16,11 @@ use std::marker::Brand;
 /// A store in memory with a table of so many commits of one file.
 pub(crate) fn table_of(alloc: Global, commits: u32) -> io::Result<MemStore> {
     let Ok(schema) = Schema::parse(alloc, "a:int64") else {
-        return Err(refused());
+        return Err(bad_input());
     };
     let mut store = MemStore::empty(alloc);
     if init(alloc, &mut store, &schema).is_err() {
-        return Err(refused());
+        return Err(bad_input());
     }
     filled::<Brand>(alloc, store, first_moment(), commits)
 }
@@ -41,7 +42,7 @@ fn filled<N: Named>(
     requires some { 0 < now }
 {
     let Ok(table) = open_world::<MemStore, N>(alloc, store, now) else {
-        return Err(refused());
+        return Err(bad_input());
     };
     let mut table = table;
     for number in 0..commits {
@@ -57,11 +58,11 @@ fn commit<N: Named>(alloc: Global, table: &mut World<MemStore, N>, number: u32) 
         "{{\"ask\":\"commit\",\"files\":[{{\"file\":\"11111111-1111-4111-8111-{group:012}\",\"partition\":\"p\",\"rows\":[[\"a\",1]]}}]}}"
     )?;
     let Ok(ask) = ask_of(alloc, line.as_bytes()) else {
-        return Err(refused());
+        return Err(bad_input());
     };
     match drive(alloc, table, u64::from(number), &ask).reply {
         Reply::Committed { .. } => Ok(()),
-        _ => Err(refused()),
+        _ => Err(bad_input()),
     }
 }
 
@@ -72,8 +73,4 @@ fn first_moment() -> Instant
         Some(at) => at,
         None => unreachable!(),
     }
-}
-
-fn refused() -> io::Error {
-    io::Error::from(io::ErrorKind::InvalidData)
 }

@@ -1,32 +1,24 @@
 //! Reads the struct on standard input so many times, for `bench/thrift`.
 //!
-//! The word is the number of rounds. It prints the rounds and the bytes that the structs have in all.
+//! The words, and what it prints, are those of `bench_input`; a round makes as many bytes as the struct has.
 #![tactic(auto)]
 
+use bench_input::{Round, bad_input, run};
 use mx_thrift::read_struct;
 use std::alloc::Global;
-use std::io::Read;
-use std::{env, io};
+use std::io;
+
+struct Structs;
 
 fn main(rt: HostRuntime) -> io::Result<()> {
-    let alloc = rt.alloc();
-    let rounds = match env::args(&rt)?.nth(1) {
-        Some(word) => word.as_str().parse::<u32>().unwrap_or(1),
-        None => 1,
-    };
-    let mut bytes = Vec::new(alloc);
-    rt.stdin().read_to_end(&mut bytes)?;
-    let mut total = 0u64;
-    for _ in 0..rounds {
-        total = total.saturating_add(round(alloc, bytes.as_slice())?);
-    }
-    println!(rt; "rounds {rounds} bytes {total}")
+    run::<Structs, _>(&rt)
 }
 
-// How many bytes the struct of one round has.
-fn round(alloc: Global, bytes: &[u8]) -> io::Result<u64> {
-    let Ok((_, end)) = read_struct(alloc, bytes, 0) else {
-        return Err(io::Error::from(io::ErrorKind::InvalidData));
-    };
-    Ok(end as u64)
+impl Round for Structs {
+    fn made(alloc: Global, bytes: &[u8], _again: bool) -> io::Result<u64> {
+        let Ok((_, end)) = read_struct(alloc, bytes, 0) else {
+            return Err(bad_input());
+        };
+        Ok(end as u64)
+    }
 }

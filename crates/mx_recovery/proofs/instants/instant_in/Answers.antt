@@ -1,5 +1,5 @@
 use Rattle.std.proofs.Common.{◌∙◌}
-use Rattle.mx_recovery.proofs.PlanLemmas.{named_instant}
+use Rattle.mx_world.proofs.DrawnLemmas.{named_instant}
 use Rattle.mx_recovery.proofs.instants.instant_in.Goals as goal
 
 pub returns-in-Some-clause-only : goal.returns-in-Some-clause-only

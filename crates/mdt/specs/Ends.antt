@@ -80,20 +80,21 @@ IsOpenedAs now None standing = IsOpenedUntold now standing
 IsOpenedAs now (Some opening) standing = IsOpened now opening standing
 
 -- the answers are one history of the lines, from the opened table to what the store is left with
-pub record AnswersLines (opening : Option (List Change)) (opened : Moment) (input : Option (List ℕ)) (journal : Option (List Change)) (faults : ℕ) (status : Status) (answers : List Answered) : Type 0 where
+pub record AnswersLines (opening : Option (List Change)) (opened : Moment) (input : Option (List ℕ)) (journal : Option (List Change)) (faults : ℕ) (reads : Option (List (List ℕ))) (status : Status) (answers : List Answered) : Type 0 where
   pub after : Moment
   pub journal_is : journal ≡ after.standing.journal
   pub faults_are : faults ≡ after.faults
+  pub reads_are : reads ≡ after.reads
   pub ending : Ending
   pub history : IsHistory opening opened after input ending answers
   pub status_is : status ≡ ending_status ending
 
 -- the table was opened, and the lines were answered
-pub record HasServed (now count : ℕ) (opening : Option (List Change)) (input : Option (List ℕ)) (journal : Option (List Change)) (faults : ℕ) (status : Status) (answers : List Answered) : Type 0 where
+pub record HasServed (now count : ℕ) (opening : Option (List Change)) (input : Option (List ℕ)) (journal : Option (List Change)) (faults : ℕ) (reads : Option (List (List ℕ))) (status : Status) (answers : List Answered) : Type 0 where
   pub opened : Moment
   pub opens : IsOpenedAs now opening opened.standing
   pub no_fault : opened.faults ≡ count
-  pub lines : AnswersLines opening opened input journal faults status answers
+  pub lines : AnswersLines opening opened input journal faults reads status answers
 
 -- the table was not opened, with the cause
 pub record IsTurnedAway (opening after : Option (List Change)) (status : Status) (answers : List Answered) : Type 0 where
@@ -103,9 +104,9 @@ pub record IsTurnedAway (opening after : Option (List Change)) (status : Status)
   pub none : answers ≡ []
 
 -- the lines of the input were served, or the table was not opened
-abbrev pub Serves : ℕ → ℕ → Option (List Change) → Option (List ℕ) → Option (List Change) → ℕ → Status → List Answered → Type 0
-Serves now count opening input journal faults status answers =
-    HasServed now count opening input journal faults status answers ⊎ IsTurnedAway opening journal status answers
+abbrev pub Serves : ℕ → ℕ → Option (List Change) → Option (List ℕ) → Option (List Change) → ℕ → Option (List (List ℕ)) → Status → List Answered → Type 0
+Serves now count opening input journal faults reads status answers =
+    HasServed now count opening input journal faults reads status answers ⊎ IsTurnedAway opening journal status answers
 
 -- the status is that of bad words only where no command has the words; and of no command it is that, or want of memory, and nothing was changed
 abbrev pub TellsWords : {A : Type 0} → List (String A) → Option (List Change) → Option (List Change) → Status → Type 0

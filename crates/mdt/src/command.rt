@@ -45,7 +45,7 @@ pub fn command<S: Store, I: Source, O: Sink, N: Named>(
     ensures valid { StaysValid N.opening (S.journal result.store) }
     ensures words { TellsWords words.now N.opening (S.journal result.store) result.status }
     ensures init { CarriesOutInit words.now N.opening (S.journal result.store) result.status }
-    ensures serves { IsCommand words.now Serve → Serves N.moment N.count N.opening (I.left source.old) (S.journal result.store) (S.faults result.store) result.status result.answers }
+    ensures serves { IsCommand words.now Serve → Serves N.moment N.count N.opening (I.left source.old) (S.journal result.store) (S.faults result.store) (S.reads result.store) result.status result.answers }
     ensures early { IsEarly result.status → (I.left source.new ≡ I.left source.old) × (result.answers ≡ []) }
     ensures to_end { IsCommand words.now Serve → result.status ≡ Status.Done → AnswersEachLine (I.left source.old) (I.left source.new) result.answers }
     ensures written { WritesReplies (O.written sink.old) (O.written sink.new) result.status result.answers }
@@ -102,7 +102,7 @@ fn serve_table<S: Store, I: Source, O: Sink, N: Named>(
     requires opening { N.opening ≡ S.journal store }
     ensures begins { Begins N.opening (S.journal result.store) }
     ensures valid { StaysValid N.opening (S.journal result.store) }
-    ensures serves { Serves N.moment N.count N.opening (I.left source.old) (S.journal result.store) (S.faults result.store) result.status result.answers }
+    ensures serves { Serves N.moment N.count N.opening (I.left source.old) (S.journal result.store) (S.faults result.store) (S.reads result.store) result.status result.answers }
     ensures early { IsEarly result.status → (I.left source.new ≡ I.left source.old) × (result.answers ≡ []) }
     ensures to_end { result.status ≡ Status.Done → AnswersEachLine (I.left source.old) (I.left source.new) result.answers }
     ensures written { WritesReplies (O.written sink.old) (O.written sink.new) result.status result.answers }
@@ -128,7 +128,7 @@ fn serve_opened<S: Store, I: Source, O: Sink, N: Named>(
 ) -> Ended<S>
     ensures begins { Begins N.opening (S.journal result.store) }
     ensures valid { StaysValid N.opening (S.journal result.store) }
-    ensures answers { AnswersLines N.opening (moment S.journal S.faults table) (I.left source.old) (S.journal result.store) (S.faults result.store) result.status result.answers }
+    ensures answers { AnswersLines N.opening (moment S.journal S.faults S.reads table) (I.left source.old) (S.journal result.store) (S.faults result.store) (S.reads result.store) result.status result.answers }
     ensures to_end { result.status ≡ Status.Done → AnswersEachLine (I.left source.old) (I.left source.new) result.answers }
     ensures written { WritesReplies (O.written sink.old) (O.written sink.new) result.status result.answers }
     ensures too_long { result.status ≡ Status.TooLong → ReadsTooMuch (I.left source.old) (I.left source.new) result.answers }

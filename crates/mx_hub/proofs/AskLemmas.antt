@@ -15,7 +15,8 @@ use Rattle.mx_store.proofs.Longer.{EachSince-now}
 use Rattle.mx_folder.specs.Folder.{IsValidTable}
 use Rattle.mx_files.specs.Files.{FilesMap}
 use Rattle.mx_folder.specs.Completed.{completed_upto}
-use Rattle.mx_lookup.specs.Looking.{IsAnswer, IsLookedUp, ReadsAll, slice_paths}
+use Rattle.mx_lookup.specs.Looking.{IsAnswer, IsLookedUp, ReadsAll, ReadsOn, slice_paths}
+use Rattle.mx_lookup.proofs.KeptLemmas.{read_on, reads_same, reads_then}
 use Rattle.mx_model.specs.Answer.{answer}
 use Rattle.mx_world.specs.declared.error.ChangeError.TheVariants as changes
 use Rattle.mx_world.specs.declared.mirror.Mirror.{Mirror}
@@ -190,3 +191,14 @@ reads_behind opening (Some j) doubt (Reply.Files at files) before during after s
 reads_behind opening (Some j) doubt (Reply.Partitions at partitions) before during after settled is = λ was. last_behind (slice_paths (completed_upto (objects_of j) at)) doubt before during after settled (is was)
 reads_behind opening (Some j) doubt (Reply.Committed at files) before during after settled is = λ _. tt
 reads_behind opening (Some j) doubt (Reply.Refused refusal) before during after settled is = λ _. tt
+
+-- what was read to settle the doubt stays read
+doubt_on : (doubt : Option Change) (before after : Option (List (List ℕ))) (result : Result Unit StoreError) → ReadsDoubt doubt before after result → ReadsOn before after
+doubt_on None before after result settled = reads_same before after settled
+doubt_on (Some change) before after result settled = read_on Unit (path_of change) before after result settled
+
+pub on_held : (doubt : Option Change) (before after : Option (List (List ℕ))) (error : StoreError) → ReadsDoubt doubt before after (Err error) → ReadsOn before after
+on_held doubt before after error settled = doubt_on doubt before after (Err error) settled
+
+pub on_settled : (doubt : Option Change) (before during after : Option (List (List ℕ))) → ReadsDoubt doubt before during (Ok tt) → ReadsOn during after → ReadsOn before after
+on_settled doubt before during after settled on = reads_then before during after (doubt_on doubt before during (Ok tt) settled) on

@@ -8,14 +8,18 @@ use Rattle.mx_store.specs.declared.change.Change.{Change}
 use Rattle.mx_store.specs.Streams.{added}
 use Rattle.mx_ask.specs.declared.ask.Ask.{Ask}
 use Rattle.mx_ask.specs.declared.reply.Refusal.{Refusal}
+use Rattle.mx_ask.specs.declared.reply.Reply.{Reply}
 use Rattle.mx_ask.specs.Asks.{IsAsk}
 use Rattle.mx_lines.specs.declared.line.Line.TheVariants.{Long}
 use Rattle.mx_lines.specs.Lines.{IsLine, LinesGo, lines_of, longest_line}
 use Rattle.mx_lines.proofs.Pieces.{added-added}
 use Rattle.mx_hub.specs.declared.answered.Answered.{Answered}
 use Rattle.mx_hub.specs.declared.serving.Ending.{Ending}
-use Rattle.mx_hub.specs.Answers.{CountsReply, IsAnswered, IsRefusedFor}
+use Rattle.mx_lookup.specs.Looking.{ReadsOn}
+use Rattle.mx_lookup.proofs.KeptLemmas.{reads_stay}
+use Rattle.mx_hub.specs.Answers.{CountsReply, IsAnswered, IsRefusedFor, ReadsSlice}
 use Rattle.mx_hub.specs.History.{Moment, IsNoAsk, IsAnswerOf, AnswersFit, IsLeftBy, IsHistory, printed, printed_replies}
+use Rattle.mx_hub.proofs.AskLemmas.{reads_refused}
 
 -- a line that is too long is no ask
 pub long_is_none : (bytes : List ℕ) → IsLine Long bytes → IsNoAsk bytes
@@ -24,11 +28,16 @@ long_is_none bytes long = λ ask is. omega (arith, long, is.short)
 
 -- ---- the answer to one line
 
+reads_none : (opening : Option (List Change)) (m : Moment) (a : Answered) (refusal : Refusal) → a.reply ≡ Reply.Refused refusal → ReadsSlice opening m.standing.journal a.reply m.reads m.reads
+reads_none opening m a refusal is = subst (λ (r : Reply). ReadsSlice opening m.standing.journal r m.reads m.reads) (sym is) (reads_refused opening m.standing.journal refusal m.reads m.reads)
+
 -- a line that is no ask is refused
 pub answers_none : (opening : Option (List Change)) (number : ℕ) (line : List ℕ) (m : Moment) (a : Answered) → IsNoAsk line → a.ask ≡ number → IsRefusedFor Refusal.Line m.standing m.standing a → IsAnswerOf opening number line m m a
 answers_none opening number line m a none at refused = record {
   ask = at;
   faults = subst (CountsReply m.faults m.faults) (sym refused.reply) refl;
+  reads = reads_none opening m a Refusal.Line refused.reply;
+  reads_on = reads_stay m.reads;
   answers = inr (inl (none, refused));
 }
 
@@ -37,13 +46,15 @@ pub answers_short : (opening : Option (List Change)) (number : ℕ) (line : List
 answers_short opening number line m a at refused = record {
   ask = at;
   faults = subst (CountsReply m.faults m.faults) (sym refused.reply) refl;
+  reads = reads_none opening m a Refusal.NoMemory refused.reply;
+  reads_on = reads_stay m.reads;
   answers = inr (inr refused);
 }
 
 -- a line that is an ask is answered
 pub answers_ask : (opening : Option (List Change)) (number : ℕ) (line : List ℕ) (ask : Ask) (before after : Moment) (a : Answered) → IsAsk line ask → a.ask ≡ number → IsAnswered opening ask before.standing after.standing a
-    → CountsReply before.faults after.faults a.reply → IsAnswerOf opening number line before after a
-answers_ask opening number line ask before after a is at answered counts = record { ask = at; faults = counts; answers = inl (ask, is, answered) }
+    → CountsReply before.faults after.faults a.reply → ReadsSlice opening after.standing.journal a.reply before.reads after.reads → ReadsOn before.reads after.reads → IsAnswerOf opening number line before after a
+answers_ask opening number line ask before after a is at answered counts reads on = record { ask = at; faults = counts; reads = reads; reads_on = on; answers = inl (ask, is, answered) }
 
 -- ---- one answer more
 

@@ -8,19 +8,21 @@ use Rattle.mx_ask.specs.Asks.{IsAsk}
 use Rattle.mx_ask.specs.Replies.{reply_text}
 use Rattle.mx_lines.specs.declared.line.Line.{Line}
 use Rattle.mx_lines.specs.Lines.{IsLine, lines_of}
+use Rattle.mx_lookup.specs.Looking.{ReadsOn}
 use Rattle.mx_world.specs.State.{Shown, Standing, standing}
-use Rattle.mx_hub.specs.Answers.{IsAnswered, IsRefusedFor, CountsReply}
+use Rattle.mx_hub.specs.Answers.{IsAnswered, IsRefusedFor, CountsReply, ReadsSlice}
 use Rattle.mx_hub.specs.declared.answered.Answered.{Answered}
 use Rattle.mx_hub.specs.declared.serving.Ending.{Ending}
 use Rattle.mx_hub.specs.declared.serving.Ending.TheVariants.{Done, NoMemory, SourceFault, SinkFault, TooLong}
 
--- how a table stands, with the count of its store's faults
+-- how a table stands, with the count of its store's faults and what was read
 pub record Moment : Type 0 where
   pub standing : Standing
   pub faults : ℕ
+  pub reads : Option (List (List ℕ))
 
-abbrev pub moment : {S : Type 0} → (S → Option (List Change)) → (S → ℕ) → Shown S → Moment
-moment journal faults w = record { standing = standing journal w; faults = faults w.store }
+abbrev pub moment : {S : Type 0} → (S → Option (List Change)) → (S → ℕ) → (S → Option (List (List ℕ))) → Shown S → Moment
+moment journal faults reads w = record { standing = standing journal w; faults = faults w.store; reads = reads w.store }
 
 -- no ask has this line
 abbrev pub IsNoAsk : List ℕ → Type 0
@@ -32,10 +34,12 @@ AnswersLine opening line before after answered =
     ((ask : Ask) × IsAsk line ask × IsAnswered opening ask before after answered)
     ⊎ ((IsNoAsk line × IsRefusedFor Refusal.Line before after answered) ⊎ IsRefusedFor Refusal.NoMemory before after answered)
 
--- the answer to the line of this number
+-- the answer to the line of this number, and what was read for it
 pub record IsAnswerOf (opening : Option (List Change)) (number : ℕ) (line : List ℕ) (before after : Moment) (answered : Answered) : Type 0 where
   pub ask : answered.ask ≡ number
   pub faults : CountsReply before.faults after.faults answered.reply
+  pub reads : ReadsSlice opening after.standing.journal answered.reply before.reads after.reads
+  pub reads_on : ReadsOn before.reads after.reads
   pub answers : AnswersLine opening line before.standing after.standing answered
 
 -- the answers are those of the lines, each once and in their order; each begins where the one before it ended

@@ -1,4 +1,5 @@
 ghost use Rattle.std.specs.Prelude.{◌≡◌, ◌+◌, ◌<◌, ◌^◌, IfOk, None};
+ghost use Rattle.mx_lookup.specs.Looking.{ReadsOn};
 ghost use Rattle.mx_world.specs.State.{Stands, standing};
 ghost use Rattle.mx_hub.specs.Answers as spec;
 ghost use Rattle.mx_hub.specs.Answers.{AnswersCommits, AnswersQuestion, AnswersSettled, CommitsFiles, CountsEnded, CountsReply, IsAnswered, IsRefusedFor, IsReplyTo, ReadsSlice, paths_at};
@@ -23,6 +24,7 @@ pub fn drive<S: Store, N: Named>(
     ensures number { result.ask ≡ number }
     ensures answered { IsAnswered N.opening ask.now (standing S.journal table.old) (standing S.journal table.new) result }
     ensures reads { ReadsSlice N.opening (S.journal table.new.store) result.reply (S.reads table.old.store) (S.reads table.new.store) }
+    ensures reads_on { ReadsOn (S.reads table.old.store) (S.reads table.new.store) }
     ensures faults { CountsReply (S.faults table.old.store) (S.faults table.new.store) result.reply }
 {
     match table.settle(alloc) {
@@ -62,6 +64,7 @@ fn answer_settled<S: Store, N: Named>(
     ensures seq { result.seq ≡ table.new.applied }
     ensures reply { IsReplyTo N.opening ask.now (standing S.journal table.old) (standing S.journal table.new) result.reply }
     ensures reads { ReadsSlice N.opening (S.journal table.new.store) result.reply (S.reads table.old.store) (S.reads table.new.store) }
+    ensures reads_on { ReadsOn (S.reads table.old.store) (S.reads table.new.store) }
     ensures faults { CountsReply (S.faults table.old.store) (S.faults table.new.store) result.reply }
 {
     let begun = table.seq();
@@ -79,6 +82,7 @@ fn reply_to<S: Store, N: Named>(alloc: Global, table: &mut World<S, N>, ask: &As
     requires sure { table.old.doubt ≡ None }
     ensures reply { IsReplyTo N.opening ask.now (standing S.journal table.old) (standing S.journal table.new) result }
     ensures reads { ReadsSlice N.opening (S.journal table.new.store) result (S.reads table.old.store) (S.reads table.new.store) }
+    ensures reads_on { ReadsOn (S.reads table.old.store) (S.reads table.new.store) }
     ensures faults { CountsReply (S.faults table.old.store) (S.faults table.new.store) result }
 {
     match &ask.kind {
@@ -94,6 +98,7 @@ fn commit_replied<S: Store, N: Named>(
 ) -> Reply
     requires sure { table.old.doubt ≡ None }
     ensures reply { AnswersCommits files.now (standing S.journal table.old) (standing S.journal table.new) result }
+    ensures reads { S.reads table.new.store ≡ S.reads table.old.store }
     ensures faults { CountsReply (S.faults table.old.store) (S.faults table.new.store) result }
 {
     match commit_files(alloc, table, files) {
@@ -112,6 +117,7 @@ fn commit_files<S: Store, N: Named>(
 ) -> Result<Reply, CommitError>
     requires sure { table.old.doubt ≡ None }
     ensures commits { CommitsFiles files.now (standing S.journal table.old) (standing S.journal table.new) result }
+    ensures reads { S.reads table.new.store ≡ S.reads table.old.store }
     ensures faults { CountsEnded (S.faults table.old.store) (S.faults table.new.store) result }
 {
     let paths = next_paths(alloc, table.last(), files)?;
@@ -148,6 +154,7 @@ fn question_replied<S: Store, N: Named>(
     requires sure { table.old.doubt ≡ None }
     ensures reply { AnswersQuestion N.opening question.now at (standing S.journal table.old) (standing S.journal table.new) result }
     ensures reads { ReadsSlice N.opening (S.journal table.new.store) result (S.reads table.old.store) (S.reads table.new.store) }
+    ensures reads_on { ReadsOn (S.reads table.old.store) (S.reads table.new.store) }
     ensures faults { CountsReply (S.faults table.old.store) (S.faults table.new.store) result }
 {
     // The call tells that the folder is a valid table.

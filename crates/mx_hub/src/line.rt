@@ -18,7 +18,7 @@ pub(crate) fn answer<S: Store, N: Named>(
     number: u64,
     line: Line,
 ) -> Answered
-    ensures { AnswersTaken N.opening number line (moment S.journal S.faults table.old) (moment S.journal S.faults table.new) result }
+    ensures { AnswersTaken N.opening number line (moment S.journal S.faults S.reads table.old) (moment S.journal S.faults S.reads table.new) result }
 {
     match line {
         Line::Whole { bytes } => answer_whole(alloc, table, number, &bytes),
@@ -32,7 +32,7 @@ fn answer_whole<S: Store, N: Named>(
     number: u64,
     bytes: &Bytes,
 ) -> Answered
-    ensures { AnswersTaken N.opening number (Whole bytes.now) (moment S.journal S.faults table.old) (moment S.journal S.faults table.new) result }
+    ensures { AnswersTaken N.opening number (Whole bytes.now) (moment S.journal S.faults S.reads table.old) (moment S.journal S.faults S.reads table.new) result }
 {
     match ask_of(alloc, bytes.as_slice()) {
         Ok(ask) => drive(alloc, table, number, &ask),

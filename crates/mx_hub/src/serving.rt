@@ -39,7 +39,7 @@ pub fn serve<S: Store, I: Source, O: Sink, N: Named>(
     source: &mut I,
     sink: &mut O,
 ) -> Served
-    ensures history { IsHistory N.opening (moment S.journal S.faults table.old) (moment S.journal S.faults table.new) (I.left source.old) result.ending result.answers }
+    ensures history { IsHistory N.opening (moment S.journal S.faults S.reads table.old) (moment S.journal S.faults S.reads table.new) (I.left source.old) result.ending result.answers }
     ensures done { result.ending ≡ Ending.Done → IfSome (I.left source.old) (λ input. length result.answers ≡ length (lines_of input)) }
     ensures read { result.ending ≡ Ending.Done → IfSome (I.left source.new) (λ left. left ≡ []) }
     ensures whole { result.ending ≢ Ending.SinkFault → O.written sink.new ≡ added (O.written sink.old) (printed_replies result.answers) }

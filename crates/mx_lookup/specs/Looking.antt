@@ -48,6 +48,11 @@ abbrev pub ReadsAll : List (List ℕ) → Option (List (List ℕ)) → Option (L
 ReadsAll paths None after = after ≡ None
 ReadsAll paths (Some before) after = after ≡ Some (before ++ paths)
 
+-- where reads are told, none that was noted is gone
+abbrev pub ReadsOn : Option (List (List ℕ)) → Option (List (List ℕ)) → Type 0
+ReadsOn None after = after ≡ None
+ReadsOn (Some before) after = (more : List (List ℕ)) × (after ≡ Some (before ++ more))
+
 -- what the files that the commits up to the instant list answer; the first base is read, and of each completed commit the log,
 -- each once, and nothing else
 pub record IsLookedUp (objects : Objects) (question : Question) (asked : Option ℕ) (reply : Reply) (before after : Option (List (List ℕ))) : Type 0 where

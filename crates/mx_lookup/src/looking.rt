@@ -5,7 +5,7 @@ ghost use Rattle.mx_store.specs.Calls.{Counts};
 ghost use Rattle.mx_store.specs.Objects.{Objects, objects_of};
 ghost use Rattle.mx_world.specs.Mirror.{IsMirrorOf};
 ghost use Rattle.mx_world.specs.State.{standing};
-ghost use Rattle.mx_lookup.specs.Looking.{IsAnswer, IsLookedUp, IsPinned, key_of};
+ghost use Rattle.mx_lookup.specs.Looking.{IsAnswer, IsLookedUp, IsPinned, ReadsOn, key_of};
 
 use crate::slice::{base_read, logs_read};
 use crate::told::reply_of;
@@ -29,6 +29,7 @@ pub fn look_up<S: Store, N: Named>(
     requires sure { table.old.doubt ≡ None }
     ensures answer { IfOk result (λ reply. IfSome (S.journal table.old.store) (λ j. IsLookedUp (objects_of j) question.now asked reply (S.reads table.old.store) (S.reads table.new.store))) }
     ensures kind { IfOk result IsAnswer }
+    ensures reads { ReadsOn (S.reads table.old.store) (S.reads table.new.store) }
     ensures same { standing S.journal table.new ≡ standing S.journal table.old }
     ensures mirror { table.new.mirror ≡ table.old.mirror }
     ensures faults { Counts (S.faults table.old.store) (S.faults table.new.store) result }

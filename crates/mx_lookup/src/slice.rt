@@ -6,7 +6,7 @@ ghost use Rattle.mx_folder.specs.Named.{log_name, first_base as first_base_name}
 ghost use Rattle.mx_folder.specs.Slices.{base_of, log_of};
 ghost use Rattle.mx_store.specs.Calls.{Counts};
 ghost use Rattle.mx_world.specs.State.{standing};
-ghost use Rattle.mx_lookup.specs.Looking.{AreLogs, IsBase, ReadsAll, log_paths};
+ghost use Rattle.mx_lookup.specs.Looking.{AreLogs, IsBase, ReadsAll, ReadsOn, log_paths};
 
 use mx_base::{BaseKind, Entry, Instant, ObjectName, Part};
 use mx_hfile::HFileError;
@@ -24,6 +24,7 @@ pub(crate) fn base_read<S: Store, N: Named>(
 ) -> Result<Listed<Entry>, StoreError>
     ensures entries { IfOk result (IsBase (S.journal table.old.store)) }
     ensures reads { OnOk result (ReadsAll (object_path first_base_name ∷ []) (S.reads table.old.store) (S.reads table.new.store)) }
+    ensures reads_on { ReadsOn (S.reads table.old.store) (S.reads table.new.store) }
     ensures same { standing S.journal table.new ≡ standing S.journal table.old }
     ensures mirror { table.new.mirror ≡ table.old.mirror }
     ensures faults { Counts (S.faults table.old.store) (S.faults table.new.store) result }
@@ -43,6 +44,7 @@ pub(crate) fn logs_read<S: Store, N: Named>(
 ) -> Result<Vec<Log>, StoreError>
     ensures logs { IfOk result (λ logs. AreLogs (S.journal table.old.store) instants.now logs.items) }
     ensures reads { OnOk result (ReadsAll (log_paths instants.now) (S.reads table.old.store) (S.reads table.new.store)) }
+    ensures reads_on { ReadsOn (S.reads table.old.store) (S.reads table.new.store) }
     ensures same { standing S.journal table.new ≡ standing S.journal table.old }
     ensures mirror { table.new.mirror ≡ table.old.mirror }
     ensures faults { Counts (S.faults table.old.store) (S.faults table.new.store) result }
@@ -61,6 +63,7 @@ fn log_read<S: Store, N: Named>(
 ) -> Result<Log, StoreError>
     ensures log { IfOk result (λ log. AreLogs (S.journal table.old.store) (at ∷ []) (log ∷ [])) }
     ensures reads { OnOk result (ReadsAll (object_path (log_name at) ∷ []) (S.reads table.old.store) (S.reads table.new.store)) }
+    ensures reads_on { ReadsOn (S.reads table.old.store) (S.reads table.new.store) }
     ensures same { standing S.journal table.new ≡ standing S.journal table.old }
     ensures mirror { table.new.mirror ≡ table.old.mirror }
     ensures faults { Counts (S.faults table.old.store) (S.faults table.new.store) result }

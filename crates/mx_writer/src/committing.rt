@@ -63,7 +63,7 @@ impl From<ChangeError> for CommitError {
     }
 }
 
-/// Commits the rows of files at the next instant.
+/// Commits the rows of files at the next instant. It reads no object.
 pub fn commit<S: Store, N: Named>(
     alloc: Global,
     table: &mut World<S, N>,
@@ -71,6 +71,7 @@ pub fn commit<S: Store, N: Named>(
 ) -> Result<Instant, CommitError>
     requires sure { table.old.doubt ≡ None }
     ensures commits { Commits files.now (standing S.journal table.old) (standing S.journal table.new) result }
+    ensures reads { S.reads table.new.store ≡ S.reads table.old.store }
     ensures faults { CountsCommit (S.faults table.old.store) (S.faults table.new.store) result }
 {
     let made = files_made(alloc, table, files)?;

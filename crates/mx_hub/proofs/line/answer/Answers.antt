@@ -6,9 +6,9 @@ use Rattle.mx_hub.proofs.line.answer.Goals as goal
 
 pub returns-in-Whole : goal.returns-in-Whole
 returns-in-Whole g c =
-    subst (λ (l : Line). AnswersTaken g.N.Named.opening c.args.number l (moment g.S.Store.journal g.S.Store.faults c.args.table.now) (moment g.S.Store.journal g.S.Store.faults c.answer_whole.new.table) c.answer_whole.result) (sym c.in-Whole.is) c.answer_whole.ensures
+    subst (λ (l : Line). AnswersTaken g.N.Named.opening c.args.number l (moment g.S.Store.journal g.S.Store.faults g.S.Store.reads c.args.table.now) (moment g.S.Store.journal g.S.Store.faults g.S.Store.reads c.answer_whole.new.table) c.answer_whole.result) (sym c.in-Whole.is) c.answer_whole.ensures
 
 pub returns-in-Long : goal.returns-in-Long
 returns-in-Long g c =
-    subst (λ (l : Line). AnswersTaken g.N.Named.opening c.args.number l (moment g.S.Store.journal g.S.Store.faults c.args.table.now) (moment g.S.Store.journal g.S.Store.faults c.args.table.now) c.refused.result) (sym c.in-Long.is)
-    (λ bytes long. answers_none g.N.Named.opening c.args.number bytes (moment g.S.Store.journal g.S.Store.faults c.args.table.now) c.refused.result (long_is_none bytes long) c.refused.ensures.number c.refused.ensures.refused)
+    subst (λ (l : Line). AnswersTaken g.N.Named.opening c.args.number l (moment g.S.Store.journal g.S.Store.faults g.S.Store.reads c.args.table.now) (moment g.S.Store.journal g.S.Store.faults g.S.Store.reads c.args.table.now) c.refused.result) (sym c.in-Long.is)
+    (λ bytes long. answers_none g.N.Named.opening c.args.number bytes (moment g.S.Store.journal g.S.Store.faults g.S.Store.reads c.args.table.now) c.refused.result (long_is_none bytes long) c.refused.ensures.number c.refused.ensures.refused)

@@ -18,7 +18,7 @@ loop-line-init g c = record {
   taken = subst (λ (o : Option (List ℕ)). LinesGo (g.I.Source.left c.args.source.now) [] o)
       (sym (ap (λ (front : List ℕ). before front (g.I.Source.left c.args.source.now)) c.in-Ok.ensures.ahead ∙ before-nothing (g.I.Source.left c.args.source.now))) (lines_start (g.I.Source.left c.args.source.now));
   count = subst (λ (t : ℕ). CountsBytes 0 (g.I.Source.left c.args.source.now) t (g.I.Source.left c.args.source.now)) (sym c.in-Ok.ensures.taken) (counts-same 0 (g.I.Source.left c.args.source.now));
-  fits = subst (λ (l : List Answered). AnswersFit g.N.Named.opening 0 [] l (moment g.S.Store.journal g.S.Store.faults c.args.table.now) (moment g.S.Store.journal g.S.Store.faults c.args.table.now)) (sym c.new-answers.ensures) refl;
+  fits = subst (λ (l : List Answered). AnswersFit g.N.Named.opening 0 [] l (moment g.S.Store.journal g.S.Store.faults g.S.Store.reads c.args.table.now) (moment g.S.Store.journal g.S.Store.faults g.S.Store.reads c.args.table.now)) (sym c.new-answers.ensures) refl;
   written = sym (ap (λ (l : List Answered). added (g.O.Sink.written c.args.sink.now) (printed_replies l)) c.new-answers.ensures ∙ added-nothing (g.O.Sink.written c.args.sink.now));
   source_faults = refl;
   sink_faults = refl;
@@ -27,25 +27,25 @@ loop-line-init g c = record {
 pub returns-in-Ok-None-clause-history : goal.returns-in-Ok-None-clause-history
 returns-in-Ok-None-clause-history g c =
     let i = c.loop-line.invariant in
-    history_ended g.N.Named.opening (moment g.S.Store.journal g.S.Store.faults c.args.table.now) (moment g.S.Store.journal g.S.Store.faults c.loop-line.table) _ (g.I.Source.left c.args.source.now) _ i.lines ending.Done c.stop_with-in-Ok-None.result.ending c.loop-line.answers c.stop_with-in-Ok-None.result.answers c.stop_with-in-Ok-None.ensures.ending c.stop_with-in-Ok-None.ensures.answers
+    history_ended g.N.Named.opening (moment g.S.Store.journal g.S.Store.faults g.S.Store.reads c.args.table.now) (moment g.S.Store.journal g.S.Store.faults g.S.Store.reads c.loop-line.table) _ (g.I.Source.left c.args.source.now) _ i.lines ending.Done c.stop_with-in-Ok-None.result.ending c.loop-line.answers c.stop_with-in-Ok-None.result.answers c.stop_with-in-Ok-None.ensures.ending c.stop_with-in-Ok-None.ensures.answers
     i.fits i.taken refl
 
 pub returns-in-Err-NoMemory-clause-history : goal.returns-in-Err-NoMemory-clause-history
 returns-in-Err-NoMemory-clause-history g c =
     let i = c.loop-line.invariant in
-    history_ended g.N.Named.opening (moment g.S.Store.journal g.S.Store.faults c.args.table.now) (moment g.S.Store.journal g.S.Store.faults c.loop-line.table) _ (g.I.Source.left c.args.source.now) _ i.lines ending.NoMemory c.stop_with-in-Err-NoMemory.result.ending c.loop-line.answers c.stop_with-in-Err-NoMemory.result.answers c.stop_with-in-Err-NoMemory.ensures.ending c.stop_with-in-Err-NoMemory.ensures.answers
+    history_ended g.N.Named.opening (moment g.S.Store.journal g.S.Store.faults g.S.Store.reads c.args.table.now) (moment g.S.Store.journal g.S.Store.faults g.S.Store.reads c.loop-line.table) _ (g.I.Source.left c.args.source.now) _ i.lines ending.NoMemory c.stop_with-in-Err-NoMemory.result.ending c.loop-line.answers c.stop_with-in-Err-NoMemory.result.answers c.stop_with-in-Err-NoMemory.ensures.ending c.stop_with-in-Err-NoMemory.ensures.answers
     i.fits i.taken (inl refl)
 
 pub returns-in-Err-Fault-clause-history : goal.returns-in-Err-Fault-clause-history
 returns-in-Err-Fault-clause-history g c =
     let i = c.loop-line.invariant in
-    history_ended g.N.Named.opening (moment g.S.Store.journal g.S.Store.faults c.args.table.now) (moment g.S.Store.journal g.S.Store.faults c.loop-line.table) _ (g.I.Source.left c.args.source.now) _ i.lines ending.SourceFault c.stop_with-in-Err-Fault.result.ending c.loop-line.answers c.stop_with-in-Err-Fault.result.answers c.stop_with-in-Err-Fault.ensures.ending c.stop_with-in-Err-Fault.ensures.answers
+    history_ended g.N.Named.opening (moment g.S.Store.journal g.S.Store.faults g.S.Store.reads c.args.table.now) (moment g.S.Store.journal g.S.Store.faults g.S.Store.reads c.loop-line.table) _ (g.I.Source.left c.args.source.now) _ i.lines ending.SourceFault c.stop_with-in-Err-Fault.result.ending c.loop-line.answers c.stop_with-in-Err-Fault.result.answers c.stop_with-in-Err-Fault.ensures.ending c.stop_with-in-Err-Fault.ensures.answers
     i.fits i.taken refl
 
 pub returns-in-Err-TooLong-clause-history : goal.returns-in-Err-TooLong-clause-history
 returns-in-Err-TooLong-clause-history g c =
     let i = c.loop-line.invariant in
-    history_ended g.N.Named.opening (moment g.S.Store.journal g.S.Store.faults c.args.table.now) (moment g.S.Store.journal g.S.Store.faults c.loop-line.table) _ (g.I.Source.left c.args.source.now) _ i.lines ending.TooLong c.stop_with-in-Err-TooLong.result.ending c.loop-line.answers c.stop_with-in-Err-TooLong.result.answers c.stop_with-in-Err-TooLong.ensures.ending c.stop_with-in-Err-TooLong.ensures.answers
+    history_ended g.N.Named.opening (moment g.S.Store.journal g.S.Store.faults g.S.Store.reads c.args.table.now) (moment g.S.Store.journal g.S.Store.faults g.S.Store.reads c.loop-line.table) _ (g.I.Source.left c.args.source.now) _ i.lines ending.TooLong c.stop_with-in-Err-TooLong.result.ending c.loop-line.answers c.stop_with-in-Err-TooLong.result.answers c.stop_with-in-Err-TooLong.ensures.ending c.stop_with-in-Err-TooLong.ensures.answers
     i.fits i.taken refl
 
 nothing_left : (a : List ℕ) (left : Option (List ℕ)) → IfSome (before a left) (λ (l : List ℕ). l ≡ []) → IfSome left (λ (l : List ℕ). l ≡ [])
@@ -61,7 +61,7 @@ pub returns-in-Ok-None-clause-done : goal.returns-in-Ok-None-clause-done
 returns-in-Ok-None-clause-done g c = λ _.
     let i = c.loop-line.invariant in
     counted (g.I.Source.left c.args.source.now) i.lines c.loop-line.answers c.stop_with-in-Ok-None.result.answers c.stop_with-in-Ok-None.ensures.answers
-    (same_length g.N.Named.opening 0 i.lines c.loop-line.answers (moment g.S.Store.journal g.S.Store.faults c.args.table.now) (moment g.S.Store.journal g.S.Store.faults c.loop-line.table) i.fits)
+    (same_length g.N.Named.opening 0 i.lines c.loop-line.answers (moment g.S.Store.journal g.S.Store.faults g.S.Store.reads c.args.table.now) (moment g.S.Store.journal g.S.Store.faults g.S.Store.reads c.loop-line.table) i.fits)
     (lines_done (g.I.Source.left c.args.source.now) i.lines _ i.taken (rw c.in-Ok-None.field-0-is at c.in-Ok-None.ensures.line))
 
 pub returns-in-Ok-None-clause-read : goal.returns-in-Ok-None-clause-read
@@ -73,17 +73,17 @@ pub returns-in-Err-clause-history : goal.returns-in-Err-clause-history
 returns-in-Err-clause-history g c =
     let i = c.loop-line.invariant in
     let one = line_on (g.I.Source.left c.args.source.now) i.lines _ c.in-Ok-Some.line _ i.taken (rw c.in-Ok-Some.field-0-is at c.in-Ok-Some.ensures.line) in
-    history_ended g.N.Named.opening (moment g.S.Store.journal g.S.Store.faults c.args.table.now) (moment g.S.Store.journal g.S.Store.faults c.loop-line.table) (moment g.S.Store.journal g.S.Store.faults c.answer-answered.new.table) (g.I.Source.left c.args.source.now) _ i.lines ending.NoMemory c.stop_with-in-Err.result.ending c.loop-line.answers c.stop_with-in-Err.result.answers
+    history_ended g.N.Named.opening (moment g.S.Store.journal g.S.Store.faults g.S.Store.reads c.args.table.now) (moment g.S.Store.journal g.S.Store.faults g.S.Store.reads c.loop-line.table) (moment g.S.Store.journal g.S.Store.faults g.S.Store.reads c.answer-answered.new.table) (g.I.Source.left c.args.source.now) _ i.lines ending.NoMemory c.stop_with-in-Err.result.ending c.loop-line.answers c.stop_with-in-Err.result.answers
     c.stop_with-in-Err.ensures.ending (c.stop_with-in-Err.ensures.answers ∙ c.in-Err.ensures.err) i.fits i.taken
-    (inr (one.0, c.answer-answered.result, subst (λ (n : ℕ). IsAnswerOf g.N.Named.opening n one.0 (moment g.S.Store.journal g.S.Store.faults c.loop-line.table) (moment g.S.Store.journal g.S.Store.faults c.answer-answered.new.table) c.answer-answered.result) c.len-number.ensures (c.answer-answered.ensures one.0 one.1)))
+    (inr (one.0, c.answer-answered.result, subst (λ (n : ℕ). IsAnswerOf g.N.Named.opening n one.0 (moment g.S.Store.journal g.S.Store.faults g.S.Store.reads c.loop-line.table) (moment g.S.Store.journal g.S.Store.faults g.S.Store.reads c.answer-answered.new.table) c.answer-answered.result) c.len-number.ensures (c.answer-answered.ensures one.0 one.1)))
 
 pub returns-in-Err-write_all-clause-history : goal.returns-in-Err-write_all-clause-history
 returns-in-Err-write_all-clause-history g c =
     let i = c.loop-line.invariant in
     let one = line_on (g.I.Source.left c.args.source.now) i.lines _ c.in-Ok-Some.line _ i.taken (rw c.in-Ok-Some.field-0-is at c.in-Ok-Some.ensures.line) in
-    history_ended g.N.Named.opening (moment g.S.Store.journal g.S.Store.faults c.args.table.now) (moment g.S.Store.journal g.S.Store.faults c.answer-answered.new.table) _ (g.I.Source.left c.args.source.now) _ (i.lines ++ one.0 ∷ []) ending.SinkFault c.stop_with-in-Err-write_all.result.ending (c.loop-line.answers ++ c.answer-answered.result ∷ []) c.stop_with-in-Err-write_all.result.answers
+    history_ended g.N.Named.opening (moment g.S.Store.journal g.S.Store.faults g.S.Store.reads c.args.table.now) (moment g.S.Store.journal g.S.Store.faults g.S.Store.reads c.answer-answered.new.table) _ (g.I.Source.left c.args.source.now) _ (i.lines ++ one.0 ∷ []) ending.SinkFault c.stop_with-in-Err-write_all.result.ending (c.loop-line.answers ++ c.answer-answered.result ∷ []) c.stop_with-in-Err-write_all.result.answers
     c.stop_with-in-Err-write_all.ensures.ending (c.stop_with-in-Err-write_all.ensures.answers ∙ c.in-Ok-keep.ensures.kept)
-    (fit_push g.N.Named.opening 0 i.lines c.loop-line.answers (moment g.S.Store.journal g.S.Store.faults c.args.table.now) (moment g.S.Store.journal g.S.Store.faults c.loop-line.table) (moment g.S.Store.journal g.S.Store.faults c.answer-answered.new.table) one.0 c.answer-answered.result i.fits c.len-number.result (let n = c.len-number.ensures in omega (arith, n)) (c.answer-answered.ensures one.0 one.1))
+    (fit_push g.N.Named.opening 0 i.lines c.loop-line.answers (moment g.S.Store.journal g.S.Store.faults g.S.Store.reads c.args.table.now) (moment g.S.Store.journal g.S.Store.faults g.S.Store.reads c.loop-line.table) (moment g.S.Store.journal g.S.Store.faults g.S.Store.reads c.answer-answered.new.table) one.0 c.answer-answered.result i.fits c.len-number.result (let n = c.len-number.ensures in omega (arith, n)) (c.answer-answered.ensures one.0 one.1))
     one.2 refl
 
 pub returns-in-Err-write_all-clause-part : goal.returns-in-Err-write_all-clause-part
@@ -105,8 +105,8 @@ loop-line-preserved g c =
       lines = i.lines ++ one.0 ∷ [];
       taken = one.2;
       count = counts-trans 0 _ _ (g.I.Source.left c.args.source.now) (g.I.Source.left c.loop-line.source) (g.I.Source.left c.next_line.new.source) i.count c.next_line.ensures.count;
-      fits = subst (λ (kept : List Answered). AnswersFit g.N.Named.opening 0 (i.lines ++ one.0 ∷ []) kept (moment g.S.Store.journal g.S.Store.faults c.args.table.now) (moment g.S.Store.journal g.S.Store.faults c.answer-answered.new.table)) (sym c.in-Ok-keep.ensures.kept)
-          (fit_push g.N.Named.opening 0 i.lines c.loop-line.answers (moment g.S.Store.journal g.S.Store.faults c.args.table.now) (moment g.S.Store.journal g.S.Store.faults c.loop-line.table) (moment g.S.Store.journal g.S.Store.faults c.answer-answered.new.table) one.0 c.answer-answered.result i.fits c.len-number.result (let n = c.len-number.ensures in omega (arith, n)) (c.answer-answered.ensures one.0 one.1));
+      fits = subst (λ (kept : List Answered). AnswersFit g.N.Named.opening 0 (i.lines ++ one.0 ∷ []) kept (moment g.S.Store.journal g.S.Store.faults g.S.Store.reads c.args.table.now) (moment g.S.Store.journal g.S.Store.faults g.S.Store.reads c.answer-answered.new.table)) (sym c.in-Ok-keep.ensures.kept)
+          (fit_push g.N.Named.opening 0 i.lines c.loop-line.answers (moment g.S.Store.journal g.S.Store.faults g.S.Store.reads c.args.table.now) (moment g.S.Store.journal g.S.Store.faults g.S.Store.reads c.loop-line.table) (moment g.S.Store.journal g.S.Store.faults g.S.Store.reads c.answer-answered.new.table) one.0 c.answer-answered.result i.fits c.len-number.result (let n = c.len-number.ensures in omega (arith, n)) (c.answer-answered.ensures one.0 one.1));
       written = written-push (g.O.Sink.written c.args.sink.now) (g.O.Sink.written c.loop-line.sink) _ c.loop-line.answers c.answer-answered.result i.written two
           ∙ ap (λ (kept : List Answered). added (g.O.Sink.written c.args.sink.now) (printed_replies kept)) (sym c.in-Ok-keep.ensures.kept);
       source_faults = c.in-Ok-Some.ensures.faults ∙ i.source_faults;
@@ -124,7 +124,7 @@ returns-in-Err-TooLong-clause-cut g c = λ _.
     let i = c.loop-line.invariant in
     subst (λ (l : List Answered). LinesAreCut (g.I.Source.left c.args.source.now) (length l) (g.I.Source.left c.next_line.new.source)) (sym c.stop_with-in-Err-TooLong.ensures.answers)
     (lines_cut (g.I.Source.left c.args.source.now) i.lines _ (g.I.Source.left c.next_line.new.source) (length c.loop-line.answers) i.taken
-    (same_length g.N.Named.opening 0 i.lines c.loop-line.answers (moment g.S.Store.journal g.S.Store.faults c.args.table.now) (moment g.S.Store.journal g.S.Store.faults c.loop-line.table) i.fits)
+    (same_length g.N.Named.opening 0 i.lines c.loop-line.answers (moment g.S.Store.journal g.S.Store.faults g.S.Store.reads c.args.table.now) (moment g.S.Store.journal g.S.Store.faults g.S.Store.reads c.loop-line.table) i.fits)
     (c.next_line.ensures.cut (search rules)))
 
 fewer : (input left : Option (List ℕ)) (taken : ℕ) → CountsBytes 0 input taken left → IfSome left (λ (l : List ℕ). l ≡ []) → taken < 2 ^ 40 → IfSome input (λ (l : List ℕ). length l < 2 ^ 40)
@@ -143,5 +143,5 @@ returns-in-Ok-None-clause-short g c = λ _.
 
 pub returns-in_default-clause-history : goal.returns-in_default-clause-history
 returns-in_default-clause-history g c =
-    history_ended g.N.Named.opening (moment g.S.Store.journal g.S.Store.faults c.args.table.now) (moment g.S.Store.journal g.S.Store.faults c.args.table.now) (moment g.S.Store.journal g.S.Store.faults c.args.table.now) (g.I.Source.left c.args.source.now) (g.I.Source.left c.args.source.now) [] ending.NoMemory c.stop_with.result.ending [] c.stop_with.result.answers
+    history_ended g.N.Named.opening (moment g.S.Store.journal g.S.Store.faults g.S.Store.reads c.args.table.now) (moment g.S.Store.journal g.S.Store.faults g.S.Store.reads c.args.table.now) (moment g.S.Store.journal g.S.Store.faults g.S.Store.reads c.args.table.now) (g.I.Source.left c.args.source.now) (g.I.Source.left c.args.source.now) [] ending.NoMemory c.stop_with.result.ending [] c.stop_with.result.answers
     c.stop_with.ensures.ending (c.stop_with.ensures.answers ∙ c.new-answers.ensures) refl (lines_start (g.I.Source.left c.args.source.now)) (inl refl)
